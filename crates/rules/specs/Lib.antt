@@ -1,0 +1,22 @@
+-- Document 01 as definitions, in its order. docs/PAPER.md leads from each of its sentences to its definition.
+
+-- the numbers that the paper fixes; lists of tests; multiples
+pub mod Fixed
+pub mod Tests
+pub mod Round
+-- the heap and its memory: addresses and places; words; heads and the list of holes; sound
+pub mod Kinds
+pub mod Words
+pub mod Holes
+pub mod Sound
+-- what each call does: the rounded size and the hole used; the freed span; the calls; the readers
+pub mod Allocate
+pub mod Free
+pub mod Calls
+pub mod Readers
+-- when the box says no; how tightly an answer is tied: numbers, heap, arena, rows
+pub mod Refusals
+pub mod Answers
+pub mod Outcome
+-- crates weighed by hand
+pub mod Weighed

@@ -1,0 +1,109 @@
+-- When the box says no: each refusal's conditions, and the order in which a call tests them. Definitions only.
+use mathlib.Core.List.{List, [], _∷_, _++_}
+use mathlib.Core.Bool.{Bool, not, cond}
+use Prim.Native.Nat.{ℕ, _-_}
+use lib.Dec.{eqb, ltb}
+use lib.Count.{onesIn}
+use Rattle.rules.specs.declared.Addr.{Addr}
+use Rattle.rules.specs.declared.Hole.{Hole}
+use Rattle.rules.specs.declared.Heap.{Heap}
+use Rattle.rules.specs.declared.Refusal.{Refusal}
+use Rattle.rules.specs.declared.Refusal.the-variants.{BadOpening, Opened, Unopened, OtherLength, NotSound, BadLayout, BadSpan, PastArena}
+use Rattle.rules.specs.declared.Layout.{Layout}
+use Rattle.rules.specs.declared.Layout.the-variants.{Rounded, Bad}
+use Rattle.rules.specs.Fixed.{arenaLimit, addrLimit, minSize, grain, width}
+use Rattle.rules.specs.Tests.{any}
+use Rattle.rules.specs.Kinds.{addr, plus, same, before, multipleOf}
+use Rattle.rules.specs.Holes.{hole, end}
+use Rattle.rules.specs.Sound.{arenaEnd, sound}
+use Rattle.rules.specs.Allocate.{rounded}
+use Rattle.rules.specs.Free.{overlaps, eight, eightToHole}
+use Rattle.rules.specs.Calls.{Call, opening, allocate, free, extend, list, room, onlyHole, Outcome, refused}
+
+-- ---- the table: a refusal is given exactly if one of its conditions holds
+
+-- base 0, arena over 65,536, base + length over 2^63, named size above the length, or under 16 bytes left after both roundings
+abbrev pub refusal1 : ℕ → Addr → ℕ → List Bool
+refusal1 len base named =
+    same base (addr 0)
+    ∷ ltb arenaLimit len
+    ∷ before (addr addrLimit) (plus base len)
+    ∷ ltb len named
+    ∷ ltb (onlyHole base named .size) minSize
+    ∷ []
+
+-- bottom is not 0
+abbrev pub refusal2 : Heap → List Bool
+refusal2 h = not (same (h .bottom) (addr 0)) ∷ []
+
+-- bottom is 0
+abbrev pub refusal3 : Heap → List Bool
+refusal3 h = same (h .bottom) (addr 0) ∷ []
+
+-- arena length differs from that at opening
+abbrev pub refusal4 : ℕ → Heap → List Bool
+refusal4 len h = not (eqb len (h .len)) ∷ []
+
+-- heap not sound
+abbrev pub refusal5 : Heap → List Hole → List Bool
+refusal5 h ks = not (sound h ks) ∷ []
+
+-- a power of two is known by its count of ones
+abbrev pub onePower : ℕ → Bool
+onePower align = eqb (onesIn width align) 1
+
+-- alignment not a power of two, or rounded size above 2^63 − alignment
+abbrev pub refusal6 : ℕ → ℕ → List Bool
+refusal6 s align = not (onePower align) ∷ ltb (addrLimit - align) (rounded s) ∷ []
+
+-- the rounded size, or that refusal
+unfoldable pub layoutOf : ℕ → ℕ → Layout
+layoutOf s align = cond (any (refusal6 s align)) Bad (Rounded (rounded s))
+
+-- address no multiple of 8 or of the alignment; span not inside [bottom, top); span overlaps a hole; or exactly 8 bytes would stay
+-- between the span and a hole, bottom or top
+abbrev pub refusal8 : Heap → List Hole → Hole → ℕ → List Bool
+refusal8 h ks g align =
+    not (multipleOf grain (g .addr))
+    ∷ not (multipleOf align (g .addr))
+    ∷ before (g .addr) (h .bottom)
+    ∷ before (h .top) (end g)
+    ∷ overlaps g ks
+    ∷ eightToHole g ks
+    ∷ eight (h .bottom) (g .addr)
+    ∷ eight (end g) (h .top)
+    ∷ []
+
+-- top + pending + by above base + arena length
+abbrev pub refusal9 : ℕ → Heap → List Bool
+refusal9 by h = before (arenaEnd h) (plus (plus (h .top) (h .pending)) by) ∷ []
+
+-- ---- the order of the tests
+
+pub record Test : Type 0 where
+  pub gives : Refusal
+  pub «exactly-if» : List Bool
+
+abbrev pub test : Refusal → List Bool → Test
+test r bs = record { gives = r; «exactly-if» = bs }
+
+-- 3, 4 and 5: all calls but open
+abbrev pub openedTests : ℕ → Heap → List Hole → List Test
+openedTests len h ks =
+    test Unopened (refusal3 h) ∷ test OtherLength (refusal4 len h) ∷ test NotSound (refusal5 h ks) ∷ []
+
+-- open tests 2, then 1; the rest test in rising order. 7 comes of the walk itself (`taken`)
+unfoldable pub tests : Call → ℕ → Heap → List Hole → List Test
+tests (opening base named) len h ks = test Opened (refusal2 h) ∷ test BadOpening (refusal1 len base named) ∷ []
+tests (allocate s align) len h ks = openedTests len h ks ++ (test BadLayout (refusal6 s align) ∷ [])
+tests (free a s align) len h ks =
+    openedTests len h ks
+    ++ (test BadLayout (refusal6 s align) ∷ test BadSpan (refusal8 h ks (hole a (rounded s)) align) ∷ [])
+tests (extend by) len h ks = openedTests len h ks ++ (test PastArena (refusal9 by h) ∷ [])
+tests list len h ks = openedTests len h ks
+tests room len h ks = openedTests len h ks
+
+-- the first test that holds refuses; else the outcome
+unfoldable pub unless : List Test → Outcome → Outcome
+unless [] o = o
+unless (t ∷ ts) o = cond (any (t .«exactly-if»)) (refused (t .gives)) (unless ts o)
