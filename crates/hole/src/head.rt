@@ -9,6 +9,7 @@ ghost use lib.ListN.{length};
 ghost use Rattle.rules.specs.Kinds.{place};
 ghost use Rattle.rules.specs.Words.{word, store};
 ghost use Rattle.rules.specs.Holes.{headAt, putHead};
+ghost use Rattle.rules.proofs.Words.{Bytes};
 
 // The number in eight bytes. They are joined by `|` and not summed, which keeps them one load of
 // eight bytes even where a caller tests the low digits.
@@ -56,6 +57,17 @@ fn put_word(m: &mut [u8], i: usize, x: u64)
         rest = rest / 256;
         left -= 1;
     }
+}
+
+// The length of an arena; and what is lent are bytes.
+pub fn arena_len(arena: &[u8]) -> u64
+    ensures { λ r. ⌜ (r ≡ length (now (arena .entry))) × Bytes (now (arena .entry)) ⌝ }
+{
+    if arena.len() == 0 {
+        return 0;
+    }
+    let _first = arena[0];
+    arena.len() as u64
 }
 
 // The head at a place.

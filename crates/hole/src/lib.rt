@@ -3,6 +3,7 @@
 mod head;
 mod layout;
 
+pub use head::arena_len;
 pub use head::make_hole;
 pub use head::put_head;
 pub use head::read_head;

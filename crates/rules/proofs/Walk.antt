@@ -146,7 +146,7 @@ kept-floor h k ks l =
     (λ q. rw q refl)
     (λ q. let n : plus (h .bottom) minSize .0 ≤ k .addr .0 = rw q at l in simp (q, le-leb _ _ n))
 
-floor-low : (h : Heap) (ks : List Hole) → h .bottom .0 ≤ floorOf h ks .0
+pub floor-low : (h : Heap) (ks : List Hole) → h .bottom .0 ≤ floorOf h ks .0
 unfolding floorOf
 floor-low h [] = omega arith
 floor-low h (k ∷ ks) = cases (same (h .bottom) (k .addr)) (λ q. rw q (omega arith)) (λ q. rw q (omega arith))

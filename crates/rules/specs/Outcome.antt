@@ -1,9 +1,11 @@
 -- The outcome of any call on any heap and any arena: answer, heap, the entire arena and, for list, the entire rows. Definitions only.
+use mathlib.Core.Path.{_≡_}
 use mathlib.Core.List.{List, [], _∷_, map}
 use Prim.Native.Nat.{ℕ, min}
 use lib.ListN.{length, take}
 use Rattle.rules.specs.declared.Hole.{Hole}
 use Rattle.rules.specs.declared.Heap.{Heap}
+use Rattle.rules.specs.declared.Done.{Done}
 use Rattle.rules.specs.declared.Answer.{Answer}
 use Rattle.rules.specs.declared.Answer.the-variants.{Refused}
 use Rattle.rules.specs.Kinds.{number}
@@ -37,6 +39,10 @@ leaves h m (done a h′ ks) = record { answer = a; heap = h′; arena = putHeads
 
 unfoldable pub after : Call → Heap → List ℕ → After
 after c h m = leaves h m (outcome c h m)
+
+-- what a call hands back, and the arena that it leaves, are what the definition says
+abbrev pub Is : After → Done → List ℕ → Type 0
+Is a r m = (r .answer ≡ a .answer) × (r .heap ≡ a .heap) × (m ≡ a .arena)
 
 -- ---- the rows that list is lent
 

@@ -1,0 +1,81 @@
+// One step of the walk, and the floor that it starts with.
+use crate::Step;
+use hole::read_head;
+use rules::Addr;
+use rules::Heap;
+use rules::Hole;
+use rules::NONE;
+use rules::Place;
+ghost use mathlib.Core.Path.{_≡_};
+ghost use Rattle.rules.proofs.Walk.{Fair};
+ghost use Rattle.cursor.specs.Walk.{Lent, startOf, lastOf, stepOf};
+
+// The floor of the first head: bottom if it lies there, else 16 bytes on, so that 0 or at least 16
+// bytes are left before it.
+pub fn first_floor(h: Heap) -> Addr
+    requires { ⌜ Fair h ⌝ }
+    ensures { λ r. ⌜ r ≡ startOf h ⌝ }
+{
+    let bottom = h.bottom.0;
+    if h.first.0 == bottom - h.base.0 {
+        return Addr(bottom);
+    }
+    Addr(bottom + 16)
+}
+
+// Behind the last head 0 or at least 16 bytes are left.
+fn last(h: Heap, floor: Addr) -> Step
+    requires { ⌜ Fair h ⌝ }
+    ensures { λ r. ⌜ r ≡ lastOf h floor ⌝ }
+{
+    let top = h.top.0;
+    if floor.0 <= top {
+        return Step::End;
+    }
+    if floor.0 == top + 16 {
+        return Step::End;
+    }
+    Step::Bad
+}
+
+// What stands at a place, the next hole lying nowhere below the floor.
+pub fn next(h: Heap, arena: &[u8], at: Place, floor: Addr) -> Step
+    requires { ⌜ Lent h (now arena) ⌝ }
+    ensures { λ r. ⌜ r ≡ stepOf h (now (arena .entry)) at floor ⌝ }
+{
+    let base = h.base.0;
+    let top = h.top.0;
+    let p = at.0;
+    if p == NONE {
+        return last(h, floor);
+    }
+    if top - base - 16 < p {
+        return Step::Bad;
+    }
+    let head = read_head(arena, at);
+    let addr = base + p;
+    let size = head.size;
+    if addr < floor.0 {
+        return Step::Bad;
+    }
+    if addr % 8 != 0 {
+        return Step::Bad;
+    }
+    if size % 8 != 0 {
+        return Step::Bad;
+    }
+    if size < 16 {
+        return Step::Bad;
+    }
+    if top - addr < size {
+        return Step::Bad;
+    }
+    let next = head.next;
+    Step::At(
+        Hole {
+            addr: Addr(addr),
+            size,
+        },
+        next,
+    )
+}

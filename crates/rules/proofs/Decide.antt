@@ -1,0 +1,90 @@
+-- How a call is decided: 3, 4 and the rules on the numbers first, then the rules on the holes, then the rest. Assumes nothing.
+use mathlib.Core.Path.{_≡_, refl}
+use mathlib.Core.Bool.{Bool, true, false, not, cond}
+use mathlib.Core.List.{List, [], _∷_, _++_}
+use Prim.Native.Nat.{ℕ}
+use native.Mathlib.Omega.{arith}
+use lib.Dec.{eqb}
+use lib.ListN.{length}
+use borrow.Author.Tests.{eq-eqb, ne-eqb}
+use Rattle.rules.specs.declared.Addr.{Addr}
+use Rattle.rules.specs.declared.Hole.{Hole}
+use Rattle.rules.specs.declared.Heap.{Heap}
+use Rattle.rules.specs.declared.Refusal.the-variants.{Unopened, OtherLength, NotSound, BadLayout, BadSpan, PastArena}
+use Rattle.rules.specs.declared.Answer.the-variants.{Listed, Room}
+use Prim.Native.Nat.{_-_}
+use Rattle.rules.specs.Tests.{any}
+use Rattle.rules.specs.Holes.{hole, largest}
+use Rattle.rules.specs.Sound.{size, soundNumbers, soundHoles, sound}
+use Rattle.rules.specs.Allocate.{rounded, find}
+use Rattle.rules.specs.Calls.{Call, allocate, free, extend, list, room, Outcome, refused, told, taken, given, extended, accepted}
+use Rattle.rules.specs.Refusals.{Test, test, openedTests, tests, unless, refusal6, refusal8, refusal9}
+use Rattle.rules.specs.Outcome.{decided}
+use Rattle.rules.proofs.Cases.{cases}
+
+-- an outcome, unless the holes break a rule
+unfoldable pub sifted : Heap → List Hole → Outcome → Outcome
+sifted h ks o = cond (soundHoles h ks) o (refused NotSound)
+
+-- ---- the tests that all calls but open begin with, whatever follows them
+
+module _ (len : ℕ) (h : Heap) (ks : List Hole) (ts : List Test) (o : Outcome) where
+  pub unless-3 : h .bottom .0 ≡ 0 → unless (openedTests len h ks ++ ts) o ≡ refused Unopened
+  unfolding unless
+  unless-3 e = rw (eq-eqb (h .bottom .0) 0 e)
+
+  pub unless-4 : (h .bottom .0 ≡ 0 → ⊥) → (len ≡ h .len → ⊥) → unless (openedTests len h ks ++ ts) o ≡ refused OtherLength
+  unfolding unless
+  unless-4 n d = rw (ne-eqb (h .bottom .0) 0 n, ne-eqb len (h .len) d)
+
+  pub unless-5 : (h .bottom .0 ≡ 0 → ⊥) → len ≡ h .len → soundNumbers h ≡ false → unless (openedTests len h ks ++ ts) o ≡ refused NotSound
+  unfolding unless sound
+  unless-5 n d e = rw (ne-eqb (h .bottom .0) 0 n, eq-eqb len (h .len) d, e)
+
+  pub unless-fair : (h .bottom .0 ≡ 0 → ⊥) → len ≡ h .len → soundNumbers h ≡ true → unless (openedTests len h ks ++ ts) o ≡ sifted h ks (unless ts o)
+  unfolding unless sound sifted
+  unless-fair n d e =
+      cases (soundHoles h ks)
+      (λ q. rw (ne-eqb (h .bottom .0) 0 n, eq-eqb len (h .len) d, e, q))
+      (λ q. rw (ne-eqb (h .bottom .0) 0 n, eq-eqb len (h .len) d, e, q))
+
+-- ---- what follows them, call by call
+
+-- a free on sound holes
+unfoldable pub freeing : ℕ → Addr → ℕ → Heap → List Hole → Outcome
+freeing s a align h ks = cond (any (refusal8 h ks (hole a s) align)) (refused BadSpan) (given s a h ks)
+
+-- an extension on sound holes
+unfoldable pub extending : ℕ → Heap → List Hole → Outcome
+extending by h ks = cond (any (refusal9 by h)) (refused PastArena) (extended by h ks)
+
+-- the tests behind 5, and what is left once they pass
+abbrev pub rest : Call → Heap → List Hole → List Test
+rest (Call.opening base named) h ks = []
+rest (allocate s align) h ks = test BadLayout (refusal6 s align) ∷ []
+rest (free a s align) h ks = test BadLayout (refusal6 s align) ∷ test BadSpan (refusal8 h ks (hole a (rounded s)) align) ∷ []
+rest (extend by) h ks = test PastArena (refusal9 by h) ∷ []
+rest list h ks = []
+rest room h ks = []
+
+abbrev pub Opens : Call → Bool
+Opens (Call.opening base named) = true
+Opens (allocate s align) = false
+Opens (free a s align) = false
+Opens (extend by) = false
+Opens list = false
+Opens room = false
+
+-- every call but open
+pub decided-later : (c : Call) (len : ℕ) (h : Heap) (ks : List Hole) → Opens c ≡ false
+    → decided c len h ks ≡ unless (openedTests len h ks ++ rest c h ks) (accepted c len h ks)
+unfolding decided tests
+decided-later (Call.opening base named) len h ks e = absurd (no-open e)
+  where
+    no-open : true ≡ false → ⊥
+    no-open e = let z : _≡_ {A = ℕ} 0 1 = cc in omega arith
+decided-later (allocate s align) len h ks e = refl
+decided-later (free a s align) len h ks e = refl
+decided-later (extend by) len h ks e = refl
+decided-later list len h ks e = refl
+decided-later room len h ks e = refl
