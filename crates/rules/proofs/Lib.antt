@@ -24,3 +24,5 @@ pub mod Clear
 pub mod Decide
 -- crates weighed by hand
 pub mod Weighed
+-- what the port leaves out
+pub mod LeftOut

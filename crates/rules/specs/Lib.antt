@@ -20,3 +20,5 @@ pub mod Answers
 pub mod Outcome
 -- crates weighed by hand
 pub mod Weighed
+-- what the port leaves out of the original, and that it is harmless
+pub mod LeftOut
