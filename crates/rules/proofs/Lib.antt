@@ -26,3 +26,27 @@ pub mod Decide
 pub mod Weighed
 -- what the port leaves out
 pub mod LeftOut
+-- the demands: soundness and the tests in the paper's words
+pub mod SoundWords
+pub mod TestWords
+-- demand 1: refusals; what stays; the numbers of answers
+pub mod Passes
+pub mod Refused
+pub mod Unaltered
+pub mod Numbered
+-- demand 2: where a request may lie, and the lowest address
+pub mod Suits
+pub mod Good
+pub mod Lowest
+-- the other calls
+pub mod Vacancy
+pub mod FreeWords
+pub mod OpenWords
+pub mod Reports
+pub mod Readings
+-- soundness is kept, and memory
+pub mod AllocateKept
+pub mod FreedWalk
+pub mod FreeKept
+pub mod SoundKept
+pub mod MemoryWords

@@ -117,7 +117,7 @@ module _ (base : Addr) (lo hi : ℕ) (front mid back : List Hole) (p : Place) (m
   put-middle = put-append base mid back none m ∙ rw (put-same base back none m bytes behind, first-or base back)
 
   -- those before it stand after the middle was written
-  before-stands : Holds base (putHeadsTo base mid (firstOf base back) m) front p
+  pub before-stands : Holds base (putHeadsTo base mid (firstOf base back) m) front p
   before-stands =
       let e = endOr lo front in
       let r = rises-back lo hi front (mid ++ back) rises in

@@ -22,3 +22,7 @@ pub mod Outcome
 pub mod Weighed
 -- what the port leaves out of the original, and that it is harmless
 pub mod LeftOut
+-- the demands: the paper's words as statements
+pub mod InWords
+pub mod Runs
+pub mod Demands

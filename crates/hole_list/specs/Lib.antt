@@ -1,0 +1,3 @@
+-- What the contracts of src/ cite.
+pub mod Settled
+pub mod Span

@@ -1,0 +1,65 @@
+-- A call on a good heap: the tests of 3, 4 and 5 pass, a valid layout passes 6, and the heap becomes what its new holes make it.
+-- Assumes nothing.
+use mathlib.Core.Path.{_≡_, refl, _∙_}
+use mathlib.Core.Bool.{false}
+use mathlib.Core.List.{List}
+use Prim.Native.Nat.{ℕ, _-_, _≤_}
+use native.Mathlib.Omega.{arith}
+use lib.Count.{onesIn}
+use lib.ListN.{length}
+use borrow.Author.Tests.{eq-eqb, le-ltb}
+use Rattle.rules.specs.declared.Addr.{Addr}
+use Rattle.rules.specs.declared.Hole.{Hole}
+use Rattle.rules.specs.declared.Heap.{Heap}
+use Rattle.rules.specs.Fixed.{addrLimit, width}
+use Rattle.rules.specs.Tests.{any}
+use Rattle.rules.specs.Holes.{firstOf}
+use Rattle.rules.specs.Sound.{holes}
+use Rattle.rules.specs.Allocate.{rounded}
+use Rattle.rules.specs.Calls.{Call, accepted, renewed}
+use Rattle.rules.specs.Refusals.{refusal6, unless}
+use Rattle.rules.specs.Outcome.{outcome}
+use Rattle.rules.specs.Demands.{Good, Valid, Becomes}
+use Rattle.rules.proofs.Powers.{power-one}
+use Rattle.rules.proofs.Walk.{sound-fair}
+use Rattle.rules.proofs.Rises.{Rises, sound-rises}
+use Rattle.rules.proofs.Decide.{sifted, unless-fair, rest, Opens, decided-later}
+use Rattle.rules.proofs.SoundWords.{rounds-rounded, words-numbers, words-holes}
+
+-- of its tests only those behind 5 are left
+pub good-outcome : (c : Call) (h : Heap) (m : List ℕ) → Opens c ≡ false → Good h m
+    → outcome c h m ≡ unless (rest c h (holes h m)) (accepted c (length m) h (holes h m))
+unfolding outcome sifted
+good-outcome c h m later g =
+    let ks = holes h m in
+    let opened : h .bottom .0 ≡ 0 → ⊥ = λ e. omega (arith, g .1 .0 .base, g .1 .0 .bottom .above) in
+    decided-later c (length m) h ks later
+    ∙ unless-fair (length m) h ks (rest c h ks) (accepted c (length m) h ks) opened (g .0) (words-numbers h (g .1 .0))
+    ∙ rw (words-holes h ks (g .1 .1))
+
+pub good-rises : (h : Heap) (m : List ℕ) → Good h m → Rises (h .bottom .0) (h .top .0) (holes h m)
+good-rises h m g = sound-rises h (sound-fair h (words-numbers h (g .1 .0))) (holes h m) (words-holes h (holes h m) (g .1 .1))
+
+pub valid-passes : (s align r : ℕ) → Valid s align r → any (refusal6 s align) ≡ false
+valid-passes s align r v =
+    let e : r ≡ rounded s = rounds-rounded (v .rounds) in
+    rw (
+      eq-eqb (onesIn width align) 1 (power-one width (v .power) (v .fits)),
+      le-ltb (addrLimit - align) (rounded s) (omega (arith, v .room)),
+    )
+
+-- its first place is that of the first of holes that rise behind base
+pub renewed-becomes : (h : Heap) (ks : List Hole) (top : Addr) (pending used lo hi : ℕ) → h .base .0 ≤ lo → Rises lo hi ks
+    → Becomes h ks (top .0) pending used (renewed h ks top pending used)
+unfolding firstOf
+renewed-becomes h ks top pending used lo hi l s =
+    record {
+      base = refl;
+      len = refl;
+      bottom = refl;
+      newTop = refl;
+      newPending = refl;
+      newUsed = refl;
+      none = λ e. rw e;
+      first = λ k back e. let t = rw e at s in rw e (omega arith);
+    }

@@ -1,0 +1,31 @@
+-- Each answer has the paper's number and values. Assumes nothing.
+use mathlib.Core.Path.{refl}
+use Rattle.rules.specs.Answers.{answerNumbers, refusalNumbers}
+use Rattle.rules.specs.Demands.{RefusalNumbers, AnswerNumbers}
+
+pub refusal-numbers : RefusalNumbers
+unfolding answerNumbers refusalNumbers
+refusal-numbers =
+    record {
+      one = refl;
+      two = refl;
+      three = refl;
+      four = refl;
+      five = refl;
+      six = refl;
+      seven = λ n. refl;
+      eight = refl;
+      nine = refl;
+    }
+
+pub answer-numbers : AnswerNumbers
+unfolding answerNumbers
+answer-numbers =
+    record {
+      opens = λ a n. refl;
+      allocates = λ a n. refl;
+      frees = λ x y. refl;
+      extends = λ x y. refl;
+      lists = λ x y. refl;
+      reports = λ x y. refl;
+    }

@@ -1,0 +1,142 @@
+-- Each call is refused for what the paper's table says, in the table's order, and for nothing else. Assumes nothing.
+use mathlib.Core.Path.{_≡_, refl, ap}
+use mathlib.Core.Bool.{true, false, not}
+use mathlib.Core.List.{List, [], _∷_, _++_}
+use Prim.Native.Nat.{ℕ, _+_, _<_}
+use native.Mathlib.Omega.{arith}
+use lib.Dec.{ltb}
+use lib.ListN.{length}
+use borrow.Author.Tests.{not-false}
+use Rattle.rules.specs.declared.Hole.{Hole}
+use Rattle.rules.specs.declared.Heap.{Heap}
+use Rattle.rules.specs.declared.Refusal.{Refusal}
+use Rattle.rules.specs.declared.Refusal.the-variants.{BadLayout, NoRoom, BadSpan, PastArena}
+use Rattle.rules.specs.declared.Answer.{Answer}
+use Rattle.rules.specs.Fixed.{minSize}
+use Rattle.rules.specs.Round.{Power}
+use Rattle.rules.specs.Tests.{any}
+use Rattle.rules.specs.Holes.{hole}
+use Rattle.rules.specs.Sound.{sound, holes}
+use Rattle.rules.specs.Allocate.{rounded, candidate, Found, nothing, found, find}
+use Rattle.rules.specs.Calls.{opening, allocate, free, extend, list, room, Outcome, refused, told, done, taken, given, gathered, grown, extended, accepted}
+use Rattle.rules.specs.Refusals.{onePower, refusal6, refusal8, refusal9, Test, test, openedTests, tests, unless}
+use Rattle.rules.specs.Outcome.{decided, outcome}
+use Rattle.rules.specs.InWords.{Rounds, RoomAt, NoLayout, NoSpan}
+use Rattle.rules.specs.Demands.{Row, Decides, refusalsOf, RefusalsExactly}
+use Rattle.rules.proofs.Cases.{cases, by-test, or-left, any-each}
+use Rattle.rules.proofs.SoundWords.{rounded-rounds, rounds-rounded, sound-words, sound-means}
+use Rattle.rules.proofs.TestWords.{Means, means-eq, means-lt, means-not, means-last, means-rounds, means-power, no-start, no-layout, no-span}
+use Rattle.rules.proofs.Suits.{nothing-room, found-room}
+
+-- ---- rows of words against lists of tests
+
+abbrev row : Refusal → Type 0 → Row
+row r t = record { gives = r; «exactly-if» = t }
+
+-- each row refuses as its test does, and for what its test means
+abbrev Meets : List Row → List Test → Type 0
+Meets [] [] = Unit {0}
+Meets [] (q ∷ qs) = ⊥
+Meets (t ∷ ts) [] = ⊥
+Meets (t ∷ ts) (q ∷ qs) = (q .gives ≡ t .gives) × Means (any (q .«exactly-if»)) (t .«exactly-if») × Meets ts qs
+
+abbrev Passed : List Test → Type 0
+Passed [] = Unit {0}
+Passed (q ∷ qs) = (any (q .«exactly-if») ≡ false) × Passed qs
+
+-- rows that meet the tests decide, and the rows behind them once the tests are passed
+decides : (ts us : List Row) (qs : List Test) (o : Outcome) → Meets ts qs → (Passed qs → Decides us o) → Decides (ts ++ us) (unless qs o)
+unfolding unless
+decides [] us [] o m f = f tt
+decides [] us (q ∷ qs) o m f = absurd m
+decides (t ∷ ts) us [] o m f = absurd m
+decides (t ∷ ts) us (q ∷ qs) o m f = (
+  λ e. rw (m .1 .1 e) (ap refused (m .0)),
+  λ n.
+      cases (any (q .«exactly-if»))
+      (λ e. absurd (n (m .1 .0 e)))
+      (λ e. rw e (decides ts us qs o (m .2) (λ p. f (e, p)))),
+)
+
+-- ---- what is no refusal
+
+done-passes : (a : Answer) (h : Heap) (ks : List Hole) → Decides [] (done a h ks)
+done-passes a h ks r e = let z : _≡_ {A = ℕ} 0 1 = cc in omega arith
+
+told-passes : (a : Answer) (ks : List Hole) → Decides [] (told a ks)
+told-passes a ks r e = let z : _≡_ {A = ℕ} 0 1 = cc in omega arith
+
+extended-passes : (by : ℕ) (h : Heap) (ks : List Hole) → Decides [] (extended by h ks)
+unfolding extended gathered grown
+extended-passes by h ks =
+    by-test (Decides []) (ltb (h .pending + by) minSize) _ _ (λ e. done-passes _ _ _) (λ e. done-passes _ _ _)
+
+-- ---- the rows of the calls
+
+module _ (h : Heap) (m : List ℕ) where
+  -- 3, 4 and 5, then the others on a sound heap
+  opened-decides : (ts us : List Row) (qs : List Test) (o : Outcome) → Meets ts qs
+      → (sound h (holes h m) ≡ true → Passed qs → Decides us o)
+      → Decides (refusalsOf list h m ++ (ts ++ us)) (unless (openedTests (length m) h (holes h m) ++ qs) o)
+  unfolding unless
+  opened-decides ts us qs o n f =
+      decides (refusalsOf list h m) (ts ++ us) (openedTests (length m) h (holes h m)) (unless qs o) (
+        refl,
+        means-last (means-eq (h .bottom .0) 0),
+        (
+          refl,
+          means-last (means-not (means-eq (length m) (h .len))),
+          (refl, means-last (means-not (sound-means h (holes h m))), tt),
+        ),
+      )
+      (λ p. decides ts us qs o n (f (not-false (sound h (holes h m)) (or-left (not (sound h (holes h m))) false (p .1 .1 .0)))))
+
+  -- 7: where no hole is found there is no room, and where one is there is
+  room-decides : (s align : ℕ) (f : Found) → Power align → sound h (holes h m) ≡ true → find (rounded s) align (holes h m) ≡ f
+      → Decides (row (NoRoom (length (holes h m))) ((r : ℕ) → Rounds s r → (x : ℕ) → RoomAt r align (holes h m) x → ⊥) ∷ [])
+      (taken (rounded s) align h (holes h m) f)
+  unfolding taken
+  room-decides s align nothing p e q = (
+    λ n. refl,
+    λ n.
+        absurd
+        (n
+        (λ r d x t.
+        nothing-room (rounded s) align p (holes h m) (λ k i. sound-words h (holes h m) e .1 .each k i .place) q x
+        (rw (rounds-rounded d) at t))),
+  )
+  room-decides s align (found front k back) p e q = (
+    λ n.
+        absurd
+        (n (rounded s) (rounded-rounds s) (candidate align (k .addr) .0) (found-room (rounded s) align p (holes h m) front back k q)),
+    λ n. done-passes _ _ _,
+  )
+
+pub refusals-exactly : RefusalsExactly
+unfolding outcome decided tests accepted given
+refusals-exactly (opening base named) h m f =
+    decides (refusalsOf (opening base named) h m) [] (tests (opening base named) (length m) h (holes h m)) _
+    (refl, means-last (means-not (means-eq (h .bottom .0) 0)), (refl, no-start (length m) base named, tt))
+    (λ p. done-passes _ _ _)
+refusals-exactly (allocate s align) h m f =
+    opened-decides h m (row BadLayout (NoLayout s align) ∷ []) (row (NoRoom (length (holes h m))) _ ∷ [])
+    (test BadLayout (refusal6 s align) ∷ []) _ (refl, no-layout s align (f .1), tt)
+    (λ e p.
+    room-decides h m s align (find (rounded s) align (holes h m))
+    (means-power align (f .1) .0 (not-false (onePower align) (any-each (refusal6 s align) (p .0) .0))) e refl)
+refusals-exactly (free x s align) h m f =
+    opened-decides h m
+    (row BadLayout (NoLayout s align) ∷ row BadSpan ((r : ℕ) × Rounds s r × NoSpan h (holes h m) (x .0) r align) ∷ []) []
+    (test BadLayout (refusal6 s align) ∷ test BadSpan (refusal8 h (holes h m) (hole x (rounded s)) align) ∷ []) _ (
+      refl,
+      no-layout s align (f .2),
+      (refl, means-rounds (λ r. NoSpan h (holes h m) (x .0) r align) s (no-span x (rounded s) h (holes h m) align), tt),
+    )
+    (λ e p. done-passes _ _ _)
+refusals-exactly (extend by) h m f =
+    opened-decides h m (row PastArena (h .base .0 + h .len < h .top .0 + h .pending + by) ∷ []) []
+    (test PastArena (refusal9 by h) ∷ []) _
+    (refl, means-last (means-lt (h .base .0 + h .len) (h .top .0 + h .pending + by)), tt)
+    (λ e p. extended-passes by h (holes h m))
+refusals-exactly list h m f = opened-decides h m [] [] [] _ tt (λ e p. told-passes _ _)
+refusals-exactly room h m f = opened-decides h m [] [] [] _ tt (λ e p. told-passes _ _)

@@ -1,0 +1,79 @@
+-- What a call leaves as it was: a refusal everything, a call that only tells heap and memory, every call but list its rows; and that
+-- no more than one outcome meets a promise. Assumes nothing.
+use mathlib.Core.Path.{_≡_, refl, sym, _∙_}
+use mathlib.Core.List.{List, [], _∷_}
+use Prim.Native.Nat.{ℕ, zero, suc, _+_, min}
+use lib.Dec.{ltb}
+use lib.ListN.{length, take}
+use Rattle.rules.specs.declared.Hole.{Hole}
+use Rattle.rules.specs.declared.Heap.{Heap}
+use Rattle.rules.specs.declared.Done.{Done}
+use Rattle.rules.specs.declared.Answer.{Answer}
+use Rattle.rules.specs.Fixed.{minSize}
+use Rattle.rules.specs.Tests.{any}
+use Rattle.rules.specs.Sound.{holes}
+use Rattle.rules.specs.Allocate.{rounded, Found, nothing, found, find}
+use Rattle.rules.specs.Calls.{Call, opening, allocate, free, extend, list, room, Outcome, refused, taken, given, gathered, grown, extended, accepted}
+use Rattle.rules.specs.Refusals.{Test, tests, unless}
+use Rattle.rules.specs.Outcome.{decided, outcome, leaves, after, Rows, over, inRows, leavesRows, rowsAfter}
+use Rattle.rules.specs.Demands.{RefusalsKeep, TellsOnly, OtherRows, NothingLoose}
+use Rattle.rules.proofs.Cases.{by-test}
+
+pub refusals-keep : RefusalsKeep
+unfolding after leaves rowsAfter leavesRows
+refusals-keep c h m rows r e = (rw e, rw e, rw e, rw e)
+
+pub tells-only : TellsOnly
+unfolding after leaves
+tells-only c h m a ks e = (rw e, rw e, rw e)
+
+-- what is handed back is known by its answer and its heap
+done-is : (d : Done) {a : Answer} {h : Heap} → d .answer ≡ a → d .heap ≡ h → d ≡ record { answer = a; heap = h }
+done-is d p q = rw (← p, ← q)
+
+pub nothing-loose : NothingLoose
+nothing-loose a d e m w p q = (done-is d (p .0) (p .1) ∙ sym (done-is e (q .0) (q .1)), p .2 ∙ sym (q .2))
+
+-- ---- the rows
+
+none-over : (n : ℕ) (row : List ℕ) → over (take n []) row ≡ row
+unfolding over
+none-over zero row = refl
+none-over (suc n) row = refl
+
+module _ (r : Rows) where
+  abbrev Stays : Outcome → Type 0
+  Stays o = leavesRows r o ≡ r
+
+  unless-stays : (qs : List Test) (o : Outcome) → Stays o → Stays (unless qs o)
+  unfolding unless leavesRows
+  unless-stays [] o e = e
+  unless-stays (q ∷ qs) o e =
+      by-test Stays (any (q .«exactly-if»)) (refused (q .gives)) (unless qs o) (λ t. refl) (λ t. unless-stays qs o e)
+
+  taken-stays : (s align : ℕ) (h : Heap) (ks : List Hole) (f : Found) → Stays (taken s align h ks f)
+  unfolding taken leavesRows
+  taken-stays s align h ks nothing = refl
+  taken-stays s align h ks (found front k back) = refl
+
+  extended-stays : (by : ℕ) (h : Heap) (ks : List Hole) → Stays (extended by h ks)
+  unfolding extended gathered grown leavesRows
+  extended-stays by h ks =
+      by-test Stays (ltb (h .pending + by) minSize) _ _ (λ e. refl) (λ e. refl)
+
+  accepted-stays : (c : Call) (len : ℕ) (h : Heap) (ks : List Hole) → (c ≡ list → ⊥) → Stays (accepted c len h ks)
+  unfolding accepted given leavesRows inRows
+  accepted-stays (opening base named) len h ks n = refl
+  accepted-stays (allocate s align) len h ks n = taken-stays (rounded s) align h ks (find (rounded s) align ks)
+  accepted-stays (free x s align) len h ks n = refl
+  accepted-stays (extend by) len h ks n = extended-stays by h ks
+  accepted-stays list len h ks n = absurd (n refl)
+  accepted-stays room len h ks n =
+      let k = min (length (r .addrs)) (length (r .sizes)) in
+      rw (none-over k (r .addrs), none-over k (r .sizes))
+
+pub other-rows : OtherRows
+unfolding rowsAfter outcome decided
+other-rows c h m r n =
+    unless-stays r (tests c (length m) h (holes h m)) (accepted c (length m) h (holes h m))
+    (accepted-stays r c (length m) h (holes h m) n)

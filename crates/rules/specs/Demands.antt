@@ -1,0 +1,374 @@
+-- The demands, each as a statement under the user's sentence. Their proofs are held to these types in proofs/Demands.antt, whose one
+-- value of `Demands` the gate checks.
+use mathlib.Core.Path.{_≡_}
+use mathlib.Core.Bool.{Bool, true, cond}
+use mathlib.Core.List.{List, [], _∷_, _++_, List·Memᴰ}
+use mathlib.Core.Logic.{_⊎_}
+use Prim.Native.Nat.{ℕ, _+_, _-_, _/_, _%_, _^_, _≤_, _<_, min}
+use lib.Dec.{eqb}
+use lib.ListN.{length, getD}
+use Rattle.rules.specs.declared.Addr.{Addr}
+use Rattle.rules.specs.declared.Hole.{Hole}
+use Rattle.rules.specs.declared.Heap.{Heap}
+use Rattle.rules.specs.declared.Done.{Done}
+use Rattle.rules.specs.declared.Refusal.{Refusal}
+use Rattle.rules.specs.declared.Refusal.the-variants.{BadOpening, Opened, Unopened, OtherLength, NotSound, BadLayout, NoRoom, BadSpan, PastArena}
+use Rattle.rules.specs.declared.Answer.{Answer}
+use Rattle.rules.specs.declared.Answer.the-variants.{Opening, Allocated, Freed, Extended, Listed, Room, Refused}
+use Rattle.rules.specs.Round.{Power, Below, Above}
+use Rattle.rules.specs.Kinds.{addr, place}
+use Rattle.rules.specs.Holes.{hole}
+use Rattle.rules.specs.Sound.{unopened, sound, holes}
+use Rattle.rules.specs.Calls.{Call, opening, allocate, free, extend, list, room, Outcome, refused, told, done}
+use Rattle.rules.specs.Answers.{Numbers, numbers, answerNumbers}
+use Rattle.rules.specs.Outcome.{outcome, After, after, Is, Rows, rowsAfter}
+use Rattle.rules.specs.InWords.{Gap, endOf, SoundNumbers, SoundHoles, Sound, Rounds, Lies, RoomAt, Within, Vacant, Left, NoStart, NoLayout, NoSpan}
+use Rattle.rules.specs.Runs.{Fits, Reader, reading, Ask, calls, reads, AllFit, Told, Kept, Run, Block, Box, start, comesTo, nextBox, tells, ends, Honest}
+use Rattle.rules.specs.LeftOut.{Harmless}
+use Rattle.rules.specs.Weighed.{Weighed}
+
+-- ---- "A heap is sound if": the test that the calls make is the paper's rule
+
+abbrev pub SoundMeans : Type 0
+SoundMeans = (h : Heap) (ks : List Hole) → (sound h ks ≡ true → Sound h ks) × (Sound h ks → sound h ks ≡ true)
+
+-- ---- demand 1: "Whatever numbers and memory a call is lent, it ends with an answer. Every entry tests its own input. A refusal carries
+-- its number from the build rules and alters neither heap nor memory."
+
+-- a refusal, and what it is given for
+pub record Row : Type 1 where
+  pub gives : Refusal
+  pub «exactly-if» : Type 0
+
+-- the first row that holds refuses; where none does, the call is not refused
+abbrev pub Decides : List Row → Outcome → Type 0
+Decides [] o = (r : Refusal) → o ≡ refused r → ⊥
+Decides (t ∷ ts) o = (t .«exactly-if» → o ≡ refused (t .gives)) × ((t .«exactly-if» → ⊥) → Decides ts o)
+
+abbrev row : Refusal → Type 0 → Row
+row r t = record { gives = r; «exactly-if» = t }
+
+-- the table of refusals, for each call in the order of its tests
+abbrev openedRows : Heap → List ℕ → List Row
+openedRows h m =
+    row Unopened (h .bottom .0 ≡ 0)
+    ∷ row OtherLength (length m ≡ h .len → ⊥)
+    ∷ row NotSound (Sound h (holes h m) → ⊥)
+    ∷ []
+
+abbrev pub refusalsOf : Call → Heap → List ℕ → List Row
+refusalsOf (opening base named) h m =
+    row Opened (h .bottom .0 ≡ 0 → ⊥) ∷ row BadOpening (NoStart (length m) (base .0) named) ∷ []
+refusalsOf (allocate s align) h m =
+    openedRows h m
+    ++ (row BadLayout (NoLayout s align)
+    ∷ row (NoRoom (length (holes h m))) ((r : ℕ) → Rounds s r → (x : ℕ) → RoomAt r align (holes h m) x → ⊥)
+    ∷ [])
+refusalsOf (free x s align) h m =
+    openedRows h m
+    ++ (row BadLayout (NoLayout s align)
+    ∷ row BadSpan ((r : ℕ) × Rounds s r × NoSpan h (holes h m) (x .0) r align)
+    ∷ [])
+refusalsOf (extend by) h m =
+    openedRows h m ++ (row PastArena (h .base .0 + h .len < h .top .0 + h .pending + by) ∷ [])
+refusalsOf list h m = openedRows h m
+refusalsOf room h m = openedRows h m
+
+abbrev pub RefusalsExactly : Type 0
+RefusalsExactly = (c : Call) (h : Heap) (m : List ℕ) → Fits c → Decides (refusalsOf c h m) (outcome c h m)
+
+-- a refusal alters nothing
+abbrev pub RefusalsKeep : Type 0
+RefusalsKeep =
+    (c : Call) (h : Heap) (m : List ℕ) (rows : Rows) (r : Refusal) → outcome c h m ≡ refused r
+    → (after c h m .answer ≡ Refused r) × (after c h m .heap ≡ h) × (after c h m .arena ≡ m) × (rowsAfter c h m rows ≡ rows)
+
+-- and carries its number and zeros, 7 its count
+pub record RefusalNumbers : Type 0 where
+  pub one : answerNumbers (Refused BadOpening) ≡ numbers 1 0 0
+  pub two : answerNumbers (Refused Opened) ≡ numbers 2 0 0
+  pub three : answerNumbers (Refused Unopened) ≡ numbers 3 0 0
+  pub four : answerNumbers (Refused OtherLength) ≡ numbers 4 0 0
+  pub five : answerNumbers (Refused NotSound) ≡ numbers 5 0 0
+  pub six : answerNumbers (Refused BadLayout) ≡ numbers 6 0 0
+  pub seven : (n : ℕ) → answerNumbers (Refused (NoRoom n)) ≡ numbers 7 0 n
+  pub eight : answerNumbers (Refused BadSpan) ≡ numbers 8 0 0
+  pub nine : answerNumbers (Refused PastArena) ≡ numbers 9 0 0
+
+-- an accepted call's number is 0, with its two values
+pub record AnswerNumbers : Type 0 where
+  pub opens : (a : Addr) (n : ℕ) → answerNumbers (Opening a n) ≡ numbers 0 (a .0) n
+  pub allocates : (a : Addr) (n : ℕ) → answerNumbers (Allocated a n) ≡ numbers 0 (a .0) n
+  pub frees : (x y : ℕ) → answerNumbers (Freed x y) ≡ numbers 0 x y
+  pub extends : (x y : ℕ) → answerNumbers (Extended x y) ≡ numbers 0 x y
+  pub lists : (x y : ℕ) → answerNumbers (Listed x y) ≡ numbers 0 x y
+  pub reports : (x y : ℕ) → answerNumbers (Room x y) ≡ numbers 0 x y
+
+-- ---- demand 2: "a request gets the lowest address, a multiple of its alignment, where its rounded size lies in one hole and leaves 0 or
+-- at least 16 bytes on each side; it is refused for room exactly when there is none."
+
+-- what stays of a hole from lo to hi
+abbrev pub piece : ℕ → ℕ → List Hole
+piece lo hi = cond (eqb lo hi) [] (hole (addr lo) (hi - lo) ∷ [])
+
+-- a heap's numbers, with a new top, pending and used; its first place is that of the first hole
+pub record Becomes (h : Heap) (ks : List Hole) (top pending used : ℕ) (h′ : Heap) : Type 0 where
+  pub base : h′ .base ≡ h .base
+  pub len : h′ .len ≡ h .len
+  pub bottom : h′ .bottom ≡ h .bottom
+  pub newTop : h′ .top .0 ≡ top
+  pub newPending : h′ .pending ≡ pending
+  pub newUsed : h′ .used ≡ used
+  pub none : ks ≡ [] → h′ .first .0 ≡ 2 ^ 64 - 1
+  pub first : (k : Hole) (back : List Hole) → ks ≡ k ∷ back → h .base .0 + h′ .first .0 ≡ k .addr .0
+
+pub record Granted (r align : ℕ) (h : Heap) (ks : List Hole) (o : Outcome) : Type 0 where
+  pub at : ℕ
+  pub front : List Hole
+  pub used : Hole
+  pub back : List Hole
+  pub heap : Heap
+  pub new : List Hole
+  pub one : ks ≡ front ++ (used ∷ back)
+  pub lies : Lies r align used at
+  pub lowest : (x : ℕ) → RoomAt r align ks x → at ≤ x
+  -- the count is the used hole's place in the list
+  pub answer : o ≡ done (Allocated (addr at) (length front + 1)) heap new
+  pub split : new ≡ front ++ (piece (used .addr .0) at ++ (piece (at + r) (endOf used) ++ back))
+  pub becomes : Becomes h new (h .top .0) (h .pending) (h .used + r) heap
+
+-- an opened, sound heap with its arena
+abbrev pub Good : Heap → List ℕ → Type 0
+Good h m = (length m ≡ h .len) × Sound h (holes h m)
+
+-- a valid layout with its rounded size
+pub record Valid (s align r : ℕ) : Type 0 where
+  pub fits : align < 2 ^ 64
+  pub power : Power align
+  pub rounds : Rounds s r
+  pub room : r + align ≤ 2 ^ 63
+
+abbrev pub Demand2 : Type 0
+Demand2 =
+    (h : Heap) (m : List ℕ) (s align r : ℕ) → Good h m → Valid s align r
+    → (((x : ℕ) × RoomAt r align (holes h m) x) → Granted r align h (holes h m) (outcome (allocate s align) h m))
+    × (((x : ℕ) → RoomAt r align (holes h m) x → ⊥) → outcome (allocate s align) h m ≡ refused (NoRoom (length (holes h m))))
+
+-- ---- the other calls
+
+abbrev pub OpenDoes : Type 0
+OpenDoes =
+    (h : Heap) (m : List ℕ) (base named bottom s : ℕ) → h .bottom .0 ≡ 0 → (NoStart (length m) base named → ⊥) → Left base named bottom s
+    → outcome (opening (addr base) named) h m
+    ≡ done (Opening (addr bottom) s)
+    (record {
+      base = addr base;
+      len = length m;
+      bottom = addr bottom;
+      top = addr (bottom + s);
+      first = place (bottom - base);
+      pending = named - (bottom - base) - s;
+      used = 0;
+    })
+    (hole (addr bottom) s ∷ [])
+
+-- the holes are the old ones and a span, joined: what is free is what was and the span, and no two holes touch
+pub record Joined (h : Heap) (ks : List Hole) (x s : ℕ) (top pending used : ℕ) (h′ : Heap) (new : List Hole) : Type 0 where
+  pub vacant : (y : ℕ) → Vacant new y → Vacant ks y ⊎ Within x s y
+  pub stays : (y : ℕ) → Vacant ks y → Vacant new y
+  pub becomes-free : (y : ℕ) → Within x s y → Vacant new y
+  pub sound : Sound h′ new
+  pub becomes : Becomes h new top pending used h′
+
+abbrev pub FreeDoes : Type 0
+FreeDoes =
+    (h : Heap) (m : List ℕ) (x : Addr) (s align r : ℕ) → Good h m → Valid s align r → (NoSpan h (holes h m) (x .0) r align → ⊥)
+    → (h′ : Heap) × (new : List Hole)
+    × (outcome (free x s align) h m ≡ done (Freed r (h .used - r)) h′ new)
+    × (r ≤ h .used)
+    × Joined h (holes h m) (x .0) r (h .top .0) (h .pending) (h .used - r) h′ new
+
+abbrev pub ExtendGathers : Type 0
+ExtendGathers =
+    (h : Heap) (m : List ℕ) (by : ℕ) → Good h m → h .top .0 + h .pending + by ≤ h .base .0 + h .len → h .pending + by < 16
+    → (h′ : Heap)
+    × (outcome (extend by) h m ≡ done (Extended (h .top .0 - h .bottom .0) (h .pending + by)) h′ (holes h m))
+    × Becomes h (holes h m) (h .top .0) (h .pending + by) (h .used) h′
+
+abbrev pub ExtendGrows : Type 0
+ExtendGrows =
+    (h : Heap) (m : List ℕ) (by s : ℕ) → Good h m → h .top .0 + h .pending + by ≤ h .base .0 + h .len → 16 ≤ h .pending + by
+    → Below 8 (h .pending + by) s
+    → (h′ : Heap) × (new : List Hole)
+    × (outcome (extend by) h m ≡ done (Extended (h .top .0 + s - h .bottom .0) (h .pending + by - s)) h′ new)
+    × Joined h (holes h m) (h .top .0) s (h .top .0 + s) (h .pending + by - s) (h .used) h′ new
+
+-- n is the size of the largest hole, 0 if none
+pub record Largest (ks : List Hole) (n : ℕ) : Type 0 where
+  pub most : (k : Hole) → List·Memᴰ k ks → k .size ≤ n
+  pub one : (ks ≡ [] → n ≡ 0) × ((ks ≡ [] → ⊥) → (k : Hole) × List·Memᴰ k ks × (k .size ≡ n))
+
+abbrev pub RoomDoes : Type 0
+RoomDoes =
+    (h : Heap) (m : List ℕ) → Good h m
+    → (n : ℕ) × Largest (holes h m) n × (outcome room h m ≡ told (Room n (length (holes h m))) [])
+
+-- the i-th number of a row: of the i-th hole, as far as the shorter row holds; else what stood there
+abbrev rowAt : (Hole → ℕ) → List Hole → ℕ → List ℕ → List ℕ → Type 0
+rowAt f ks n row row′ =
+    (length row′ ≡ length row)
+    × ((front back : List Hole) (k : Hole) → ks ≡ front ++ (k ∷ back) → length front < n → getD row′ (length front) 0 ≡ f k)
+    × ((i : ℕ) → min n (length ks) ≤ i → getD row′ i 0 ≡ getD row i 0)
+
+abbrev pub ListDoes : Type 0
+ListDoes =
+    (h : Heap) (m : List ℕ) (r : Rows) → Good h m
+    → (outcome list h m ≡ told (Listed (length (holes h m)) (h .top .0 - h .bottom .0 - h .used)) (holes h m))
+    × rowAt (λ k. k .addr .0) (holes h m) (min (length (r .addrs)) (length (r .sizes))) (r .addrs) (rowsAfter list h m r .addrs)
+    × rowAt (λ k. k .size) (holes h m) (min (length (r .addrs)) (length (r .sizes))) (r .sizes) (rowsAfter list h m r .sizes)
+
+-- the rows of other calls stay
+abbrev pub OtherRows : Type 0
+OtherRows = (c : Call) (h : Heap) (m : List ℕ) (r : Rows) → (c ≡ list → ⊥) → rowsAfter c h m r ≡ r
+
+pub record Reads (h : Heap) (b t s u f : ℕ) : Type 0 where
+  pub bottom : reading Reader.bottom h ≡ b
+  pub top : reading Reader.top h ≡ t
+  pub size : reading Reader.size h ≡ s
+  pub used : reading Reader.used h ≡ u
+  pub freeBytes : reading Reader.freeBytes h ≡ f
+
+abbrev pub ReadersDo : Type 0
+ReadersDo =
+    (h : Heap)
+    → (SoundNumbers h
+    → h .used ≤ h .top .0 - h .bottom .0
+    → Reads h (h .bottom .0) (h .top .0 + h .pending) (h .top .0 - h .bottom .0) (h .used) (h .top .0 - h .bottom .0 - h .used))
+    × ((SoundNumbers h × (h .used ≤ h .top .0 - h .bottom .0) → ⊥) → Reads h 0 0 0 0 0)
+
+-- ---- "After an accepted call each head holds its hole's numbers. Every byte that lies in no head of the new list is what it was before."
+
+abbrev pub Memory : Type 0
+Memory =
+    (c : Call) (h : Heap) (m : List ℕ) (a : Answer) (h′ : Heap) (ks : List Hole) → Fits c → outcome c h m ≡ done a h′ ks
+    → (after c h m .answer ≡ a)
+    × (after c h m .heap ≡ h′)
+    × (length (after c h m .arena) ≡ length m)
+    × (holes h′ (after c h m .arena) ≡ ks)
+    × ((i : ℕ)
+    → ((k : Hole) → List·Memᴰ k ks → Within (k .addr .0 - h′ .base .0) 16 i → ⊥)
+    → getD (after c h m .arena) i 0 ≡ getD m i 0)
+
+-- a call that only tells changes nothing
+abbrev pub TellsOnly : Type 0
+TellsOnly =
+    (c : Call) (h : Heap) (m : List ℕ) (a : Answer) (ks : List Hole) → outcome c h m ≡ told a ks
+    → (after c h m .answer ≡ a) × (after c h m .heap ≡ h) × (after c h m .arena ≡ m)
+
+-- ---- soundness is kept
+
+abbrev pub SoundKept : Type 0
+SoundKept =
+    (c : Call) (h : Heap) (m : List ℕ) (a : Answer) (h′ : Heap) (ks : List Hole) → Fits c → outcome c h m ≡ done a h′ ks
+    → Sound h′ ks × (length ks ≤ (h′ .top .0 - h′ .bottom .0 + 16) / 32)
+
+-- ---- demand 3: "Take two boxes opened alike and given the same calls. Their memories may differ anywhere at the start, and between calls
+-- anyone may write any bytes save the first 16 of each hole. [..] both boxes give the same answers, counts and holes, those that follow
+-- from the calls alone."
+
+abbrev pub FollowsFromCalls : Type 0
+FollowsFromCalls =
+    (asks : List Ask) (m : List ℕ) (ts : List Told) (h : Heap) (m′ : List ℕ) → AllFit asks → Run asks unopened m ts h m′
+    → (ts ≡ tells asks start) × (h ≡ ends asks start .heap) × (holes h m′ ≡ ends asks start .holes)
+
+abbrev pub SideBySide : Type 0
+SideBySide =
+    (asks : List Ask) (m₁ m₂ : List ℕ) (ts₁ ts₂ : List Told) (h₁ h₂ : Heap) (m₁′ m₂′ : List ℕ) → AllFit asks
+    → Run asks unopened m₁ ts₁ h₁ m₁′
+    → Run asks unopened m₂ ts₂ h₂ m₂′
+    → (ts₁ ≡ ts₂) × (h₁ ≡ h₂) × (holes h₁ m₁′ ≡ holes h₂ m₂′)
+
+-- no call of a run is refused with 5, and every heap of it is unopened or sound
+abbrev pub NeverUnsound : Type 0
+NeverUnsound =
+    (asks : List Ask) → AllFit asks
+    → ((ends asks start ≡ start) ⊎ Sound (ends asks start .heap) (ends asks start .holes))
+    × ((c : Call) (n : ℕ) → Fits c → comesTo c n (ends asks start) ≡ refused NotSound → ⊥)
+
+-- "If each accepted free names a block then held, with its own size and alignment [..] Holes and held blocks fill the heap without gap or
+-- overlap, and no call changes a byte of a block held before and after it."
+
+-- the address y lies in one of the blocks
+abbrev pub Occupied : List Block → ℕ → Type 0
+Occupied bs y = (b : Block) × List·Memᴰ b bs × (r : ℕ) × Rounds (b .size) r × Within (b .addr .0) r y
+
+pub record Tiles (b : Box) : Type 0 where
+  pub inside : (y : ℕ) → Vacant (b .holes) y ⊎ Occupied (b .held) y → (b .heap .bottom .0 ≤ y) × (y < b .heap .top .0)
+  pub gapless : (y : ℕ) → b .heap .bottom .0 ≤ y → y < b .heap .top .0 → Vacant (b .holes) y ⊎ Occupied (b .held) y
+  pub apart : (y : ℕ) → Vacant (b .holes) y → Occupied (b .held) y → ⊥
+  -- any two held blocks are disjoint
+  pub disjoint :
+      (front mid back : List Block) (c d : Block) → b .held ≡ front ++ (c ∷ (mid ++ (d ∷ back)))
+      → (y r q : ℕ) → Rounds (c .size) r → Rounds (d .size) q → Within (c .addr .0) r y → Within (d .addr .0) q y → ⊥
+
+abbrev pub HeldTile : Type 0
+HeldTile = (asks : List Ask) → AllFit asks → Honest asks start → Tiles (ends asks start)
+
+-- a held block's free is accepted
+abbrev pub HeldIsFreed : Type 0
+HeldIsFreed =
+    (asks : List Ask) (b : Block) → AllFit asks → Honest asks start → List·Memᴰ b (ends asks start .held)
+    → (h′ : Heap) × (ks : List Hole) × (r : ℕ)
+    × Rounds (b .size) r
+    × (comesTo (free (b .addr) (b .size) (b .align)) (ends asks start .heap .len) (ends asks start)
+    ≡ done (Freed r (ends asks start .heap .used - r)) h′ ks)
+
+-- no call changes a byte of a block held before and after it
+abbrev pub HeldUntouched : Type 0
+HeldUntouched =
+    (asks : List Ask) (m : List ℕ) (ts : List Told) (h : Heap) (w m′ : List ℕ) (c : Call) (rows : Rows) → AllFit asks → Fits c
+    → Run asks unopened m ts h m′
+    → Kept h m′ w
+    → Honest (asks ++ (calls c rows (length w) ∷ [])) start
+    → (b : Block)
+    → List·Memᴰ b (ends asks start .held)
+    → List·Memᴰ b (ends (asks ++ (calls c rows (length w) ∷ [])) start .held)
+    → (r y : ℕ)
+    → Rounds (b .size) r
+    → Within (b .addr .0) r y
+    → getD (after c h w .arena) (y - h .base .0) 0 ≡ getD w (y - h .base .0) 0
+
+-- ---- nothing is loose: two outcomes that meet a call's promise are equal
+
+abbrev pub NothingLoose : Type 0
+NothingLoose = (a : After) (d e : Done) (m w : List ℕ) → Is a d m → Is a e w → (d ≡ e) × (m ≡ w)
+
+-- ---- all of them
+
+pub record Demands : Type 0 where
+  pub soundMeans : SoundMeans
+  pub refusalsExactly : RefusalsExactly
+  pub refusalsKeep : RefusalsKeep
+  pub refusalNumbers : RefusalNumbers
+  pub answerNumbers : AnswerNumbers
+  pub demand2 : Demand2
+  pub openDoes : OpenDoes
+  pub freeDoes : FreeDoes
+  pub extendGathers : ExtendGathers
+  pub extendGrows : ExtendGrows
+  pub roomDoes : RoomDoes
+  pub listDoes : ListDoes
+  pub otherRows : OtherRows
+  pub readersDo : ReadersDo
+  pub memory : Memory
+  pub tellsOnly : TellsOnly
+  pub soundKept : SoundKept
+  pub followsFromCalls : FollowsFromCalls
+  pub sideBySide : SideBySide
+  pub neverUnsound : NeverUnsound
+  pub heldTile : HeldTile
+  pub heldIsFreed : HeldIsFreed
+  pub heldUntouched : HeldUntouched
+  pub nothingLoose : NothingLoose
+  pub harmless : Harmless
+  pub weighed : Weighed
