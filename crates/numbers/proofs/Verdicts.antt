@@ -1,11 +1,20 @@
--- What `check` says of a heap's numbers and a length, test by test. Assumes nothing.
+-- What `check` says of a heap's numbers and a length, test by test, and what a call comes to then. Assumes nothing.
 use mathlib.Core.Path.{_≡_}
 use mathlib.Core.Bool.{true, false}
+use mathlib.Core.List.{List}
 use Prim.Native.Nat.{ℕ}
+use native.Mathlib.Omega.{arith}
+use lib.ListN.{length}
 use borrow.Author.Tests.{eq-eqb, ne-eqb}
 use Rattle.rules.specs.Sound.{soundNumbers}
+use Rattle.rules.specs.Calls.{Call, refused}
+use Rattle.rules.specs.Outcome.{outcome}
 use Rattle.rules.specs.declared.Heap.{Heap}
+use Rattle.rules.specs.declared.Refusal.{Refusal}
 use Rattle.rules.specs.declared.Refusal.the-variants.{Unopened, OtherLength, NotSound}
+use Rattle.rules.proofs.Cases.{cases, by-eq}
+use Rattle.rules.proofs.Decide.{Opens}
+use Rattle.rules.proofs.Calls.{outcome-3, outcome-4, outcome-5}
 use Rattle.numbers.specs.declared.Checked.the-variants.{Fair, No}
 use Rattle.numbers.specs.Checks.{checkedOf}
 
@@ -25,3 +34,30 @@ module _ (len : ℕ) (h : Heap) where
   pub checked-fair : (h .bottom .0 ≡ 0 → ⊥) → len ≡ h .len → soundNumbers h ≡ true → Fair ≡ checkedOf len h
   unfolding checkedOf
   checked-fair n d e = rw (ne-eqb (h .bottom .0) 0 n, eq-eqb len (h .len) d, e)
+
+  -- it lets a call go on
+  pub passes : checkedOf len h ≡ Fair → (len ≡ h .len) × (soundNumbers h ≡ true)
+  passes v =
+      by-eq (h .bottom .0) 0
+      (λ z. let k = checked-3 z in let z : _≡_ {A = ℕ} 0 1 = cc in absurd (omega arith))
+      (λ n.
+      by-eq len (h .len)
+      (λ d.
+      cases (soundNumbers h)
+      (λ t. (d, t))
+      (λ t. let k = checked-5 n d t in let z : _≡_ {A = ℕ} 0 1 = cc in absurd (omega arith)))
+      (λ d. let k = checked-4 n d in let z : _≡_ {A = ℕ} 0 1 = cc in absurd (omega arith)))
+
+-- it says no: that is the call's refusal
+pub refuses-call : (c : Call) (h : Heap) (m : List ℕ) → Opens c ≡ false → {r : Refusal} → checkedOf (length m) h ≡ No r
+    → outcome c h m ≡ refused r
+refuses-call c h m later {r} v =
+    by-eq (h .bottom .0) 0
+    (λ z. let k = checked-3 (length m) h z in let e : r ≡ Unopened = cc in rw e (outcome-3 c h m later z))
+    (λ n.
+    by-eq (length m) (h .len)
+    (λ d.
+    cases (soundNumbers h)
+    (λ t. let k = checked-fair (length m) h n d t in let z : _≡_ {A = ℕ} 0 1 = cc in absurd (omega arith))
+    (λ t. let k = checked-5 (length m) h n d t in let e : r ≡ NotSound = cc in rw e (outcome-5 c h m later n d t)))
+    (λ d. let k = checked-4 (length m) h n d in let e : r ≡ OtherLength = cc in rw e (outcome-4 c h m later n d)))

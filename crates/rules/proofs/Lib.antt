@@ -20,8 +20,9 @@ pub mod Used
 pub mod Joins
 pub mod Freed
 pub mod Clear
--- the order of the tests
+-- the order of the tests, and what each call comes to behind them
 pub mod Decide
+pub mod Calls
 -- crates weighed by hand
 pub mod Weighed
 -- what the port leaves out
@@ -50,3 +51,12 @@ pub mod FreedWalk
 pub mod FreeKept
 pub mod SoundKept
 pub mod MemoryWords
+-- demand 3: runs
+pub mod RunLaws
+-- demand 3: held blocks
+pub mod Cover
+pub mod Tiling
+pub mod HeldKept
+pub mod HeldRuns
+-- all of the demands
+pub mod Demands

@@ -1,0 +1,10 @@
+-- The laws that the proofs of this crate share, by subject.
+
+-- what the tests in front of a call earn it, and what it comes to then
+pub mod Tested
+-- an opening
+pub mod Begun
+-- the rows of a report
+pub mod Filled
+-- a survey, and the reports by it
+pub mod Surveyed

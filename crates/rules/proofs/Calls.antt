@@ -1,0 +1,195 @@
+-- What comes of a call, case by case: which tests refuse it, what is left once they pass, and what that leaves of heap, arena and
+-- rows. Assumes nothing.
+use mathlib.Core.Path.{_≡_, refl, _∙_}
+use mathlib.Core.Bool.{true, false, cond}
+use mathlib.Core.List.{List, [], _∷_}
+use Prim.Native.Nat.{ℕ, _-_}
+use native.Mathlib.Omega.{arith}
+use lib.ListN.{length}
+use borrow.Author.Tests.{eq-eqb, ne-eqb}
+use Rattle.rules.specs.declared.Addr.{Addr}
+use Rattle.rules.specs.declared.Hole.{Hole}
+use Rattle.rules.specs.declared.Heap.{Heap}
+use Rattle.rules.specs.declared.Done.{Done}
+use Rattle.rules.specs.declared.Refusal.{Refusal}
+use Rattle.rules.specs.declared.Refusal.the-variants.{BadOpening, Opened, Unopened, OtherLength, NotSound, BadLayout}
+use Rattle.rules.specs.declared.Layout.the-variants.{Rounded, Bad}
+use Rattle.rules.specs.declared.Answer.{Answer}
+use Rattle.rules.specs.declared.Answer.the-variants.{Opening, Listed, Room, Refused}
+use Rattle.rules.specs.Fixed.{grain}
+use Rattle.rules.specs.Tests.{any}
+use Rattle.rules.specs.Kinds.{raised}
+use Rattle.rules.specs.Holes.{largest, putHeads}
+use Rattle.rules.specs.Sound.{size, soundNumbers, soundHoles, holes}
+use Rattle.rules.specs.Allocate.{rounded, find}
+use Rattle.rules.specs.Calls.{Call, opening, allocate, free, extend, list, room, Outcome, refused, told, done, onlyHole, opened, taken, accepted}
+use Rattle.rules.specs.Refusals.{refusal1, refusal6, layoutOf, tests, unless}
+use Rattle.rules.specs.Outcome.{decided, outcome, leaves, after, Is, Rows, inRows, leavesRows, rowsAfter}
+use Rattle.rules.proofs.Cases.{cases}
+use Rattle.rules.proofs.Walk.{sound-fair}
+use Rattle.rules.proofs.Decide.{sifted, unless-3, unless-4, unless-5, unless-fair, freeing, extending, rest, Opens, decided-later}
+
+-- ---- what an outcome leaves
+
+module _ (c : Call) (h : Heap) (m : List ℕ) where
+  -- a call that hands back what its outcome leaves does what the definition says
+  pub is-left : (o : Outcome) {d : Done} {m′ : List ℕ} → outcome c h m ≡ o → Is (leaves h m o) d m′ → Is (after c h m) d m′
+  unfolding after
+  is-left o e p = rw e p
+
+  pub is-refused : (r : Refusal) {d : Done} → outcome c h m ≡ refused r → d .answer ≡ Refused r → d .heap ≡ h → Is (after c h m) d m
+  unfolding after leaves
+  is-refused r e a k = rw e (a, k, refl)
+
+  pub answer-refused : (r : Refusal) → outcome c h m ≡ refused r → after c h m .answer ≡ Refused r
+  unfolding after leaves
+  answer-refused r e = rw e
+
+  pub answer-told : (a : Answer) (ks : List Hole) → outcome c h m ≡ told a ks → after c h m .answer ≡ a
+  unfolding after leaves
+  answer-told a ks e = rw e
+
+  pub rows-refused : (r : Refusal) (rows : Rows) → outcome c h m ≡ refused r → rowsAfter c h m rows ≡ rows
+  unfolding rowsAfter leavesRows
+  rows-refused r rows e = rw e
+
+  pub rows-told : (a : Answer) (ks : List Hole) (rows : Rows) → outcome c h m ≡ told a ks → rowsAfter c h m rows ≡ inRows ks rows
+  unfolding rowsAfter leavesRows
+  rows-told a ks rows e = rw e
+
+-- ---- an outcome that waits on the holes
+
+module _ (h : Heap) (ks : List Hole) where
+  pub sifted-sound : (o : Outcome) → soundHoles h ks ≡ true → sifted h ks o ≡ o
+  unfolding sifted
+  sifted-sound o e = rw e
+
+  pub sifted-broken : (o : Outcome) → soundHoles h ks ≡ false → sifted h ks o ≡ refused NotSound
+  unfolding sifted
+  sifted-broken o e = rw e
+
+  pub sifted-refused : (r : Refusal) → sifted h ks (refused r) ≡ refused (cond (soundHoles h ks) r NotSound)
+  unfolding sifted
+  sifted-refused r = cases (soundHoles h ks) (λ e. rw e) (λ e. rw e)
+
+-- ---- every call but open: 3, 4 and 5
+
+module _ (c : Call) (h : Heap) (m : List ℕ) (later : Opens c ≡ false) where
+  pub outcome-3 : h .bottom .0 ≡ 0 → outcome c h m ≡ refused Unopened
+  unfolding outcome
+  outcome-3 z =
+      let ks = holes h m in
+      decided-later c (length m) h ks later ∙ unless-3 (length m) h ks (rest c h ks) (accepted c (length m) h ks) z
+
+  pub outcome-4 : (h .bottom .0 ≡ 0 → ⊥) → (length m ≡ h .len → ⊥) → outcome c h m ≡ refused OtherLength
+  unfolding outcome
+  outcome-4 n d =
+      let ks = holes h m in
+      decided-later c (length m) h ks later ∙ unless-4 (length m) h ks (rest c h ks) (accepted c (length m) h ks) n d
+
+  pub outcome-5 : (h .bottom .0 ≡ 0 → ⊥) → length m ≡ h .len → soundNumbers h ≡ false → outcome c h m ≡ refused NotSound
+  unfolding outcome
+  outcome-5 n d e =
+      let ks = holes h m in
+      decided-later c (length m) h ks later ∙ unless-5 (length m) h ks (rest c h ks) (accepted c (length m) h ks) n d e
+
+  -- the numbers pass: the holes, and then the tests behind 5
+  pub outcome-fair : length m ≡ h .len → soundNumbers h ≡ true
+      → outcome c h m ≡ sifted h (holes h m) (unless (rest c h (holes h m)) (accepted c (length m) h (holes h m)))
+  unfolding outcome
+  outcome-fair d e =
+      let ks = holes h m in
+      let f = sound-fair h e in
+      decided-later c (length m) h ks later
+      ∙ unless-fair (length m) h ks (rest c h ks) (accepted c (length m) h ks) (λ z. omega arith) d e
+
+-- ---- the layout that a call names
+
+module _ (s align : ℕ) where
+  pub layout-refused : layoutOf s align ≡ Bad → any (refusal6 s align) ≡ true
+  unfolding layoutOf
+  layout-refused e =
+      cases (any (refusal6 s align))
+      (λ t. t)
+      (λ t.
+      let g : layoutOf s align ≡ Rounded (rounded s) = rw t in
+      let z : _≡_ {A = ℕ} 0 1 = cc in
+      absurd (omega arith))
+
+  pub layout-granted : {w : ℕ} → layoutOf s align ≡ Rounded w → (any (refusal6 s align) ≡ false) × (w ≡ rounded s)
+  unfolding layoutOf
+  layout-granted {w} e =
+      cases (any (refusal6 s align))
+      (λ t.
+      let b : layoutOf s align ≡ Bad = rw t in
+      let z : _≡_ {A = ℕ} 0 1 = cc in
+      absurd (omega arith))
+      (λ t.
+      let g : layoutOf s align ≡ Rounded (rounded s) = rw t in
+      let r : w ≡ rounded s = cc in
+      (t, r))
+
+-- ---- call by call
+
+module _ (h : Heap) (m : List ℕ) (lent : length m ≡ h .len) (fair : soundNumbers h ≡ true) where
+  pub allocate-6 : (s align : ℕ) → layoutOf s align ≡ Bad → outcome (allocate s align) h m ≡ sifted h (holes h m) (refused BadLayout)
+  unfolding unless
+  allocate-6 s align e =
+      outcome-fair (allocate s align) h m refl lent fair ∙ rw (layout-refused s align e)
+
+  pub allocate-on : (s align : ℕ) {w : ℕ} → layoutOf s align ≡ Rounded w
+      → outcome (allocate s align) h m ≡ sifted h (holes h m) (taken w align h (holes h m) (find w align (holes h m)))
+  unfolding unless accepted
+  allocate-on s align e =
+      let l = layout-granted s align e in
+      outcome-fair (allocate s align) h m refl lent fair ∙ rw (l .0, l .1)
+
+  pub free-6 : (a : Addr) (s align : ℕ) → layoutOf s align ≡ Bad → outcome (free a s align) h m ≡ sifted h (holes h m) (refused BadLayout)
+  unfolding unless
+  free-6 a s align e =
+      outcome-fair (free a s align) h m refl lent fair ∙ rw (layout-refused s align e)
+
+  pub free-on : (a : Addr) (s align : ℕ) {w : ℕ} → layoutOf s align ≡ Rounded w
+      → outcome (free a s align) h m ≡ sifted h (holes h m) (freeing w a align h (holes h m))
+  unfolding unless accepted freeing
+  free-on a s align e =
+      let l = layout-granted s align e in
+      outcome-fair (free a s align) h m refl lent fair ∙ rw (l .0, l .1)
+
+  pub extend-on : (by : ℕ) → outcome (extend by) h m ≡ sifted h (holes h m) (extending by h (holes h m))
+  unfolding unless accepted extending
+  extend-on by = outcome-fair (extend by) h m refl lent fair
+
+  pub list-on : outcome list h m ≡ sifted h (holes h m) (told (Listed (length (holes h m)) (size h - h .used)) (holes h m))
+  unfolding unless accepted
+  list-on = outcome-fair list h m refl lent fair
+
+  pub room-on : outcome room h m ≡ sifted h (holes h m) (told (Room (largest (holes h m)) (length (holes h m))) [])
+  unfolding unless accepted
+  room-on = outcome-fair room h m refl lent fair
+
+-- ---- open
+
+module _ (base : Addr) (named : ℕ) (h : Heap) (m : List ℕ) where
+  pub opening-2 : (h .bottom .0 ≡ 0 → ⊥) → outcome (opening base named) h m ≡ refused Opened
+  unfolding outcome decided tests unless
+  opening-2 n = rw (ne-eqb (h .bottom .0) 0 n)
+
+  pub opening-1 : h .bottom .0 ≡ 0 → any (refusal1 (length m) base named) ≡ true → outcome (opening base named) h m ≡ refused BadOpening
+  unfolding outcome decided tests unless
+  opening-1 z e = rw (eq-eqb (h .bottom .0) 0 z, e)
+
+  pub opening-on : h .bottom .0 ≡ 0 → any (refusal1 (length m) base named) ≡ false
+      → outcome (opening base named) h m
+      ≡ done (Opening (raised grain base) (onlyHole base named .size)) (opened (length m) base named) (onlyHole base named ∷ [])
+  unfolding outcome decided tests unless accepted
+  opening-on z e = rw (eq-eqb (h .bottom .0) 0 z, e)
+
+  -- what is made of the memory, with bottom and size read off the new heap
+  pub is-opened : {d : Done} {m′ : List ℕ} → h .bottom .0 ≡ 0 → any (refusal1 (length m) base named) ≡ false
+      → d .heap ≡ opened (length m) base named → d .answer ≡ Opening (d .heap .bottom) (size (d .heap))
+      → m′ ≡ putHeads base (onlyHole base named ∷ []) m → Is (after (opening base named) h m) d m′
+  unfolding after leaves opened
+  is-opened z e k a p =
+      let s : size (opened (length m) base named) ≡ onlyHole base named .size = omega arith in
+      rw (opening-on z e) (a ∙ rw (k, s), k, p)

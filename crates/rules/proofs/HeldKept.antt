@@ -1,0 +1,234 @@
+-- What is known of a box in an honest run, and kept by each call: holes and held blocks fill the heap, each held block has a valid layout, and
+-- its address suits it. Assumes nothing.
+use mathlib.Core.Path.{_≡_, refl, ap}
+use mathlib.Core.Bool.{true, false}
+use mathlib.Core.List.{List, [], _∷_, _++_, List·Memᴰ, List·Memᴰ·head, List·Memᴰ·tail, List·Memᴰ·not-nil, List·Memᴰ·cases-cons, Memᴰ·append-right}
+use mathlib.Core.Logic.{⊎-elim}
+use Prim.Native.Nat.{ℕ, _+_, _-_, _%_, _^_, _<_}
+use native.Mathlib.Omega.{arith}
+use lib.Dec.{eqb, ltb}
+use borrow.Author.Tests.{ltb-false, eqb-true, eq-eqb, not-false}
+use Rattle.rules.specs.declared.Addr.{Addr}
+use Rattle.rules.specs.declared.Hole.{Hole}
+use Rattle.rules.specs.declared.Heap.{Heap}
+use Rattle.rules.specs.declared.Answer.{Answer}
+use Rattle.rules.specs.Fixed.{addrLimit, minSize, grain}
+use Rattle.rules.specs.Round.{downTo}
+use Rattle.rules.specs.Tests.{any}
+use Rattle.rules.specs.Kinds.{addr, same}
+use Rattle.rules.specs.Holes.{hole, end}
+use Rattle.rules.specs.Sound.{soundHoles}
+use Rattle.rules.specs.Allocate.{rounded, Found, nothing, found, find, split}
+use Rattle.rules.specs.Calls.{Call, opening, allocate, free, extend, list, room, Outcome, done, onlyHole, opened, taken, given, grown, gathered, extended, accepted}
+use Rattle.rules.specs.Refusals.{onePower, refusal6, tests}
+use Rattle.rules.specs.Outcome.{decided}
+use Rattle.rules.specs.Runs.{Fits, Ask, calls, reads, AllFit, Block, block, sameBlock, without, Box, start, heldAfter, comesTo, boxAfter, nextBox, ends, HonestCall, Honest}
+use Rattle.rules.specs.Demands.{Valid}
+use Rattle.rules.proofs.Cases.{by-test, apart, all-each, each-all, any-each}
+use Rattle.rules.proofs.Layouts.{rounded-least}
+use Rattle.rules.proofs.Walk.{Fair}
+use Rattle.rules.proofs.SoundWords.{rounded-rounds, holes-words}
+use Rattle.rules.proofs.TestWords.{means-power}
+use Rattle.rules.proofs.Passes.{by-passes}
+use Rattle.rules.proofs.Used.{find-splits}
+use Rattle.rules.proofs.Suits.{candidate-eight, found-lies}
+use Rattle.rules.proofs.SoundKept.{passed-stands}
+use Rattle.rules.proofs.Cover.{once, cover, once-behind, joined-once, cover-append, freed-cover, split-cover}
+use Rattle.rules.proofs.Tiling.{span, spans, range, Filled}
+
+-- ---- the held blocks, one taken out
+
+same-block : (b c : Block) → sameBlock b c ≡ true → b ≡ c
+unfolding sameBlock
+same-block b c e =
+    let r = all-each (same (b .addr) (c .addr) ∷ eqb (b .size) (c .size) ∷ eqb (b .align) (c .align) ∷ []) e in
+    let x : b .addr ≡ c .addr = ap addr (eqb-true (b .addr .0) (c .addr .0) (r .0)) in
+    let s = eqb-true (b .size) (c .size) (r .1 .0) in
+    let a = eqb-true (b .align) (c .align) (r .1 .1 .0) in
+    known c x s a
+  where
+    -- a block is known by its three numbers
+    known : (c : Block) {x : Addr} {s a : ℕ} → x ≡ c .addr → s ≡ c .size → a ≡ c .align → block x s a ≡ c
+    known c p q r = rw (p, q, r)
+
+block-same : (b : Block) → sameBlock b b ≡ true
+unfolding sameBlock
+block-same b =
+    each-all (same (b .addr) (b .addr) ∷ eqb (b .size) (b .size) ∷ eqb (b .align) (b .align) ∷ [])
+    (eq-eqb (b .addr .0) (b .addr .0) refl, (eq-eqb (b .size) (b .size) refl, (eq-eqb (b .align) (b .align) refl, tt)))
+
+without-cover : (y : ℕ) (b : Block) (bs : List Block) → List·Memᴰ b bs
+    → cover y (spans (without b bs)) + once y (span b) ≡ cover y (spans bs)
+unfolding without cover
+without-cover y b [] m = absurd (List·Memᴰ·not-nil m)
+without-cover y b (c ∷ cs) m =
+    by-test (λ (ds : List Block). cover y (spans ds) + once y (span b) ≡ once y (span c) + cover y (spans cs)) (sameBlock b c) cs
+    (c ∷ without b cs)
+    (λ e. rw (same-block b c e) (omega arith))
+    (λ e.
+    ⊎-elim
+    (λ (q : b ≡ c). apart (rw q (block-same c)) e)
+    (λ (t : List·Memᴰ b cs). omega (arith, without-cover y b cs t))
+    (List·Memᴰ·cases-cons m))
+
+without-member : (b : Block) (bs : List Block) (k : Block) → List·Memᴰ k (without b bs) → List·Memᴰ k bs
+unfolding without
+without-member b [] k = λ m. m
+without-member b (c ∷ cs) k =
+    by-test (λ (ds : List Block). List·Memᴰ k ds → List·Memᴰ k (c ∷ cs)) (sameBlock b c) cs (c ∷ without b cs)
+    (λ e m. List·Memᴰ·tail m)
+    (λ e m. ⊎-elim (λ q. List·Memᴰ·head q) (λ t. List·Memᴰ·tail (without-member b cs k t)) (List·Memᴰ·cases-cons m))
+
+-- ---- what is known of a box
+
+-- a block with a valid layout, at an address that suits it
+pub record Suited (b : Block) : Type 0 where
+  pub valid : Valid (b .size) (b .align) (rounded (b .size))
+  pub eight : b .addr .0 % grain ≡ 0
+  pub multiple : b .addr .0 % b .align ≡ 0
+
+pub record Settled (b : Box) : Type 0 where
+  pub filled : Filled b
+  pub each : (k : Block) → List·Memᴰ k (b .held) → Suited k
+
+pub start-settled : Settled start
+unfolding cover
+start-settled =
+    record {
+      filled = λ y. omega (arith, once-behind y (hole (addr 0) 0) (omega arith));
+      each = λ k m. absurd (List·Memᴰ·not-nil m);
+    }
+
+passed-valid : (s align : ℕ) → align < 2 ^ 64 → any (refusal6 s align) ≡ false → Valid s align (rounded s)
+passed-valid s align l p =
+    let r = any-each (refusal6 s align) p in
+    record {
+      fits = l;
+      power = means-power align l .0 (not-false (onePower align) (r .0));
+      rounds = rounded-rounds s;
+      room = omega (arith, ltb-false (addrLimit - align) (rounded s) (r .1 .0), rounded-least s);
+    }
+
+-- ---- call by call
+
+module _ (b : Box) (settled : Settled b) where
+  taken-settled : (s align : ℕ) (f : Found) → Valid s align (rounded s) → soundHoles (b .heap) (b .holes) ≡ true
+      → find (rounded s) align (b .holes) ≡ f
+      → Settled (boxAfter (allocate s align) b (taken (rounded s) align (b .heap) (b .holes) f))
+  unfolding taken boxAfter heldAfter cover
+  taken-settled s align nothing v sound e = settled
+  taken-settled s align (found front k back) v sound e =
+      let r = rounded s in
+      let parts = find-splits r align (b .holes) front back k e in
+      let lies = found-lies r align (v .power) (b .holes) front back k e in
+      let k8 = holes-words (b .heap) (b .holes) sound .each k (rw (parts .0) (Memᴰ·append-right front (List·Memᴰ·head refl))) .place in
+      record {
+        filled =
+            λ y.
+            omega (
+              arith,
+              rw (parts .0) at (settled .filled y),
+              cover-append y front (k ∷ back),
+              cover-append y front (split r align k ++ back),
+              cover-append y (split r align k) back,
+              split-cover y r align k lies,
+            );
+        each =
+            λ j m.
+            ⊎-elim
+            (λ q. rw q (record { valid = v; eight = candidate-eight align (k .addr) (v .power) k8; multiple = lies .multiple }))
+            (λ t. settled .each j t)
+            (List·Memᴰ·cases-cons m);
+      }
+
+  given-settled : (x : Addr) (s align : ℕ) → List·Memᴰ (block x s align) (b .held)
+      → Settled (boxAfter (free x s align) b (given (rounded s) x (b .heap) (b .holes)))
+  unfolding given boxAfter heldAfter
+  given-settled x s align m =
+      record {
+        filled =
+            λ y.
+            omega (
+              arith,
+              settled .filled y,
+              freed-cover y (hole x (rounded s)) (b .holes),
+              without-cover y (block x s align) (b .held) m,
+            );
+        each = λ j t. settled .each j (without-member (block x s align) (b .held) j t);
+      }
+
+  extended-settled : (by : ℕ) → Fair (b .heap) → Settled (boxAfter (extend by) b (extended by (b .heap) (b .holes)))
+  unfolding extended gathered grown boxAfter heldAfter
+  extended-settled by f =
+      let h = b .heap in
+      let s = downTo grain (h .pending + by) in
+      by-test (λ (o : Outcome). Settled (boxAfter (extend by) b o)) (ltb (h .pending + by) minSize) _ _
+      (λ e. record { filled = settled .filled; each = settled .each })
+      (λ e.
+      let size : (h .top .0 - h .bottom .0) + s ≡ h .top .0 + s - h .bottom .0 = omega arith in
+      record {
+        filled =
+            λ y.
+            omega (
+              arith,
+              settled .filled y,
+              freed-cover y (hole (h .top) s) (b .holes),
+              rw size at (joined-once y (range h) (hole (h .top) s) (omega arith)),
+            );
+        each = settled .each;
+      })
+
+opened-settled : (b : Box) (len : ℕ) (base : Addr) (named : ℕ)
+    → Settled (boxAfter (opening base named) b (accepted (opening base named) len (b .heap) (b .holes)))
+unfolding accepted boxAfter heldAfter opened cover
+opened-settled b len base named =
+    let k = onlyHole base named in
+    let size : end k .0 - k .addr .0 ≡ k .size = omega arith in
+    record { filled = λ y. rw size (omega arith); each = λ k m. absurd (List·Memᴰ·not-nil m) }
+
+-- ---- any call that is honest
+
+call-settled : (c : Call) (n : ℕ) (b : Box) → Fits c → HonestCall c n b → Settled b → Settled (boxAfter c b (comesTo c n b))
+unfolding decided tests boxAfter
+call-settled (opening base named) n b f t settled =
+    by-passes (λ (o : Outcome). Settled (boxAfter (opening base named) b o)) (tests (opening base named) n (b .heap) (b .holes)) _
+    (λ r. settled)
+    (λ p. opened-settled b n base named)
+call-settled (allocate s align) n b f t settled =
+    by-passes (λ (o : Outcome). Settled (boxAfter (allocate s align) b o)) (tests (allocate s align) n (b .heap) (b .holes)) _
+    (λ r. settled)
+    (λ p.
+    unfold accepted in
+    taken-settled b settled s align (find (rounded s) align (b .holes)) (passed-valid s align (f .1) (p .1 .1 .1 .0))
+    (passed-stands n (b .heap) (b .holes) (p .1 .0) (p .1 .1 .0) .sound)
+    refl)
+call-settled (free x s align) n b f t settled =
+    by-passes
+    (λ (o : Outcome).
+    ((a : Answer) (h : Heap) (ks : List Hole) → o ≡ done a h ks → List·Memᴰ (block x s align) (b .held))
+    → Settled (boxAfter (free x s align) b o))
+    (tests (free x s align) n (b .heap) (b .holes)) _
+    (λ r q. settled)
+    (λ p q. unfold accepted in given-settled b settled x s align (unfold accepted given in q _ _ _ refl))
+    t
+call-settled (extend by) n b f t settled =
+    by-passes (λ (o : Outcome). Settled (boxAfter (extend by) b o)) (tests (extend by) n (b .heap) (b .holes)) _
+    (λ r. settled)
+    (λ p.
+    unfold accepted in
+    extended-settled b settled by (passed-stands n (b .heap) (b .holes) (p .1 .0) (p .1 .1 .0) .fair))
+call-settled list n b f t settled =
+    by-passes (λ (o : Outcome). Settled (boxAfter list b o)) (tests list n (b .heap) (b .holes)) _
+    (λ r. settled)
+    (λ p. unfold accepted in settled)
+call-settled room n b f t settled =
+    by-passes (λ (o : Outcome). Settled (boxAfter room b o)) (tests room n (b .heap) (b .holes)) _
+    (λ r. settled)
+    (λ p. unfold accepted in settled)
+
+pub ends-settled : (asks : List Ask) (b : Box) → AllFit asks → Honest asks b → Settled b → Settled (ends asks b)
+unfolding ends nextBox
+ends-settled [] b f t settled = settled
+ends-settled (calls c r n ∷ asks) b f t settled =
+    ends-settled asks (nextBox (calls c r n) b) (f .1) (t .1) (call-settled c n b (f .0) (t .0) settled)
+ends-settled (reads x ∷ asks) b f t settled = ends-settled asks b f (t .1) settled

@@ -1,0 +1,271 @@
+-- What a run of calls tells, and the holes that it leaves, follow from the calls alone, whatever the memories; and every heap of a run is
+-- unopened or sound. Assumes nothing.
+use mathlib.Core.Path.{_≡_, refl, sym, _∙_}
+use mathlib.Core.Bool.{true, false, cond}
+use mathlib.Core.List.{List, [], _∷_, _++_, List·Memᴰ, List·Memᴰ·head, List·Memᴰ·tail}
+use mathlib.Core.Logic.{_⊎_, inl, inr}
+use Prim.Native.Nat.{ℕ, suc, _+_, _-_, _≤_, _<_}
+use native.Mathlib.Omega.{arith}
+use lib.Dec.{ltb}
+use lib.ListN.{length, getD}
+use borrow.Author.Tests.{ne-eqb, eqb-false}
+use Rattle.rules.specs.declared.Addr.{Addr}
+use Rattle.rules.specs.declared.Hole.{Hole}
+use Rattle.rules.specs.declared.Heap.{Heap}
+use Rattle.rules.specs.declared.Refusal.{Refusal}
+use Rattle.rules.specs.declared.Refusal.the-variants.{Opened, OtherLength, NotSound}
+use Rattle.rules.specs.Fixed.{minSize}
+use Rattle.rules.specs.Tests.{any}
+use Rattle.rules.specs.Kinds.{addr, same}
+use Rattle.rules.specs.Holes.{holesFrom}
+use Rattle.rules.specs.Sound.{unopened, most, sound, holes}
+use Rattle.rules.specs.Allocate.{rounded, Found, nothing, found, find}
+use Rattle.rules.specs.Calls.{Call, opening, allocate, free, extend, list, room, Outcome, refused, told, done, taken, given, gathered, grown, extended, accepted}
+use Rattle.rules.specs.Answers.{refusalNumbers}
+use Rattle.rules.specs.Refusals.{Test, openedTests, tests, unless}
+use Rattle.rules.specs.Outcome.{decided, outcome, leaves, after, Rows, rowsAfter}
+use Rattle.rules.specs.InWords.{Sound}
+use Rattle.rules.specs.Runs.{Fits, Reader, reading, Ask, calls, reads, AllFit, Told, answers, says, Kept, Run, end, own, other, asked, Box, start, comesTo, boxAfter, answerOf, nextBox, tellBox, tells, ends}
+use Rattle.rules.specs.Demands.{FollowsFromCalls, SideBySide, NeverUnsound}
+use Rattle.rules.proofs.Cases.{cases, apart, by-test, or-left}
+use Rattle.rules.proofs.Lists.{SameHeads, frame}
+use Rattle.rules.proofs.Decide.{unless-4, rest, Opens}
+use Rattle.rules.proofs.Walk.{fair-sound}
+use Rattle.rules.proofs.SoundWords.{numbers-words, holes-words, words-sound}
+use Rattle.rules.proofs.SoundKept.{Keeps, decided-keeps, outcome-keeps}
+use Rattle.rules.proofs.MemoryWords.{stands-read}
+
+-- ---- writes between the calls
+
+each-head : (base : Addr) (m w : List ℕ) (ks : List Hole)
+    → ((k : Hole) → List·Memᴰ k ks → (i : ℕ) → k .addr .0 - base .0 ≤ i → i < k .addr .0 - base .0 + 16 → getD m i 0 ≡ getD w i 0)
+    → SameHeads base m w ks
+each-head base m w [] f = tt
+each-head base m w (k ∷ ks) f = (f k (List·Memᴰ·head refl), each-head base m w ks (λ j d. f j (List·Memᴰ·tail d)))
+
+-- bytes written outside the first 16 of each hole leave the holes as they are
+pub kept-holes : (h : Heap) (m w : List ℕ) → Kept h m w → holes h w ≡ holes h m
+unfolding holes
+kept-holes h m w kept =
+    cases (same (h .bottom) (addr 0))
+    (λ e. rw e)
+    (λ e.
+    rw e
+    (frame (suc (most h)) (h .base) m w (h .first)
+    (each-head (h .base) m w (holesFrom (suc (most h)) (h .base) m (h .first)) (λ k d. kept k (rw e d)))))
+
+-- ---- a box on memory, and the box of the calls alone
+
+-- the first has the heap and the holes of the second
+pub record Follows (b : Box) (h : Heap) (m : List ℕ) : Type 0 where
+  pub heap : h ≡ b .heap
+  pub holes : holes h m ≡ b .holes
+
+leaves-follows : (c : Call) (b : Box) (h : Heap) (w : List ℕ) (o : Outcome) → Follows b h w → Keeps (length w) o
+    → Follows (boxAfter c b o) (leaves h w o .heap) (leaves h w o .arena)
+unfolding leaves boxAfter
+leaves-follows c b h w (refused r) f k = f
+leaves-follows c b h w (told a ks) f k = f
+leaves-follows c b h w (done a h′ ks) f k = record { heap = refl; holes = stands-read h′ w ks (k .0) (k .1) }
+
+leaves-answer : (h : Heap) (w : List ℕ) (o : Outcome) → leaves h w o .answer ≡ answerOf o
+unfolding leaves answerOf
+leaves-answer h w (refused r) = refl
+leaves-answer h w (told a ks) = refl
+leaves-answer h w (done a h′ ks) = refl
+
+-- where a call comes to the same in both, it is told the same
+same-told : (c : Call) (r : Rows) (n : ℕ) (b : Box) (h : Heap) (w : List ℕ) → outcome c h w ≡ comesTo c n b
+    → answers (after c h w .answer) (rowsAfter c h w r) ≡ tellBox (calls c r n) b
+unfolding after rowsAfter tellBox
+same-told c r n b h w e = rw (e, leaves-answer h w (comesTo c n b))
+
+-- a call on the box's own arena
+module _ (c : Call) (n : ℕ) (b : Box) (h : Heap) (m w : List ℕ) (f : Follows b h m) (k : Kept h m w) (e : length w ≡ n) where
+  pub own-outcome : outcome c h w ≡ comesTo c n b
+  unfolding outcome
+  own-outcome = let p = f .heap in let q = kept-holes h m w k ∙ f .holes in cc
+
+  pub own-follows : (r : Rows) → Fits c → Follows (nextBox (calls c r n) b) (after c h w .heap) (after c h w .arena)
+  unfolding after nextBox
+  own-follows r fit =
+      let before : Follows b h w = record { heap = f .heap; holes = kept-holes h m w k ∙ f .holes } in
+      rw (← own-outcome) (leaves-follows c b h w (outcome c h w) before (outcome-keeps c h w fit))
+
+-- a call that is lent memory of another length: it is refused before any hole matters
+abbrev elsewhere : Call → Refusal
+elsewhere c = cond (Opens c) Opened OtherLength
+
+decided-elsewhere : (c : Call) (n : ℕ) (h : Heap) (ks : List Hole) → (h .bottom .0 ≡ 0 → ⊥) → (n ≡ h .len → ⊥)
+    → decided c n h ks ≡ refused (elsewhere c)
+unfolding decided tests
+decided-elsewhere (opening base named) n h ks o d = unfold unless in rw (ne-eqb (h .bottom .0) 0 o)
+decided-elsewhere (allocate s align) n h ks o d = unless-4 n h ks (rest (allocate s align) h ks) _ o d
+decided-elsewhere (free x s align) n h ks o d = unless-4 n h ks (rest (free x s align) h ks) _ o d
+decided-elsewhere (extend by) n h ks o d = unless-4 n h ks (rest (extend by) h ks) _ o d
+decided-elsewhere list n h ks o d = unless-4 n h ks [] _ o d
+decided-elsewhere room n h ks o d = unless-4 n h ks [] _ o d
+
+module _
+    (c : Call) (n : ℕ) (b : Box) (h : Heap) (m w : List ℕ) (f : Follows b h m) (o : h .bottom .0 ≡ 0 → ⊥)
+    (d : n ≡ h .len → ⊥) (e : length w ≡ n)
+  where
+    there : outcome c h w ≡ refused (elsewhere c)
+    unfolding outcome
+    there = rw e (decided-elsewhere c n h (holes h w) o d)
+
+    here : comesTo c n b ≡ refused (elsewhere c)
+    here = rw (← f .heap) (decided-elsewhere c n h (b .holes) o d)
+
+    pub other-outcome : outcome c h w ≡ comesTo c n b
+    other-outcome = there ∙ sym here
+
+    pub other-follows : (r : Rows) → Follows (nextBox (calls c r n) b) (after c h w .heap) m
+    unfolding after leaves nextBox boxAfter
+    other-follows r = rw (there, here) f
+
+-- a reader, which sees the heap alone
+module _ (x : Reader) (b : Box) (h : Heap) (m : List ℕ) (f : Follows b h m) where
+  asked-told : says (reading x h) ≡ tellBox (reads x) b
+  unfolding tellBox
+  asked-told = rw (f .heap)
+
+  pub asked-follows : Follows (nextBox (reads x) b) h m
+  unfolding nextBox
+  asked-follows = f
+
+-- ---- a run
+
+pub run-follows : {asks : List Ask} {h : Heap} {m : List ℕ} {ts : List Told} {h′ : Heap} {m′ : List ℕ} (b : Box)
+    → Follows b h m → AllFit asks → Run asks h m ts h′ m′ → (ts ≡ tells asks b) × Follows (ends asks b) h′ m′
+unfolding tells ends
+run-follows b f fit end = (refl, f)
+run-follows b f fit (own {c = c} {r = r} {n = n} {h = h} {m = m} w k e run) =
+    let ih = run-follows (nextBox (calls c r n) b) (own-follows c n b h m w f k e r (fit .0)) (fit .1) run in
+    let first = same-told c r n b h w (own-outcome c n b h m w f k e) in
+    (rw (first, ih .0), ih .1)
+run-follows b f fit (other {c = c} {r = r} {n = n} {h = h} {m = m} w o d e run) =
+    let ih = run-follows (nextBox (calls c r n) b) (other-follows c n b h m w f o d e r) (fit .1) run in
+    let first = same-told c r n b h w (other-outcome c n b h m w f o d e) in
+    (rw (first, ih .0), ih .1)
+run-follows b f fit (asked {x = x} {h = h} {m = m} run) =
+    let ih = run-follows (nextBox (reads x) b) (asked-follows x b h m f) fit run in
+    (rw (asked-told x b h m f, ih .0), ih .1)
+
+-- before the opening every memory will do
+pub fresh : (m : List ℕ) → Follows start unopened m
+unfolding holes
+fresh m = record { heap = refl; holes = refl }
+
+pub follows-from-calls : FollowsFromCalls
+follows-from-calls asks m ts h m′ fit run =
+    let t = run-follows start (fresh m) fit run in
+    (t .0, t .1 .heap, t .1 .holes)
+
+pub side-by-side : SideBySide
+side-by-side asks m₁ m₂ ts₁ ts₂ h₁ h₂ m₁′ m₂′ fit run₁ run₂ =
+    let p = follows-from-calls asks m₁ ts₁ h₁ m₁′ fit run₁ in
+    let q = follows-from-calls asks m₂ ts₂ h₂ m₂′ fit run₂ in
+    (p .0 ∙ sym (q .0), p .1 ∙ sym (q .1), p .2 ∙ sym (q .2))
+
+-- ---- the box of the calls alone: unopened as at the start, or sound
+
+abbrev pub Whole : Box → Type 0
+Whole b = (b ≡ start) ⊎ Sound (b .heap) (b .holes)
+
+after-whole : (c : Call) (n : ℕ) (b : Box) (o : Outcome) → Whole b → Keeps n o → Whole (boxAfter c b o)
+unfolding boxAfter
+after-whole c n b (refused r) v k = v
+after-whole c n b (told a ks) v k = v
+after-whole c n b (done a h ks) v k =
+    inr (numbers-words h (fair-sound h (k .0 .fair)), holes-words h ks (k .0 .sound))
+
+pub call-whole : (c : Call) (r : Rows) (n : ℕ) (b : Box) → Fits c → Whole b → Whole (nextBox (calls c r n) b)
+unfolding nextBox
+call-whole c r n b fit v = after-whole c n b (comesTo c n b) v (decided-keeps c n (b .heap) (b .holes) fit)
+
+pub ends-whole : (asks : List Ask) (b : Box) → AllFit asks → Whole b → Whole (ends asks b)
+unfolding ends nextBox
+ends-whole [] b fit v = v
+ends-whole (calls c r n ∷ asks) b fit v =
+    ends-whole asks (nextBox (calls c r n) b) (fit .1) (call-whole c r n b (fit .0) v)
+ends-whole (reads x ∷ asks) b fit v = ends-whole asks b fit v
+
+-- ---- no call of it is refused with 5
+
+abbrev no : Refusal → ℕ
+no r = refusalNumbers r .no
+
+abbrev NoFive : Outcome → Type 0
+NoFive (refused r) = no r ≡ 5 → ⊥
+NoFive (told a ks) = Unit {0}
+NoFive (done a h ks) = Unit {0}
+
+-- each test that gives 5 fails, if it is come to
+abbrev Spare : List Test → Type 0
+Spare [] = Unit {0}
+Spare (t ∷ ts) = (no (t .gives) ≡ 5 → any (t .«exactly-if») ≡ false) × (any (t .«exactly-if») ≡ false → Spare ts)
+
+unless-spare : (ts : List Test) (o : Outcome) → Spare ts → NoFive o → NoFive (unless ts o)
+unfolding unless
+unless-spare [] o s n = n
+unless-spare (t ∷ ts) o s n =
+    by-test NoFive (any (t .«exactly-if»)) (refused (t .gives)) (unless ts o)
+    (λ e five. apart e (s .0 five))
+    (λ e. unless-spare ts o (s .1 e) n)
+
+module _ (n : ℕ) (h : Heap) (ks : List Hole) where
+  taken-spare : (s align : ℕ) (f : Found) → NoFive (taken s align h ks f)
+  unfolding taken refusalNumbers
+  taken-spare s align nothing = λ e. omega arith
+  taken-spare s align (found front k back) = tt
+
+  extended-spare : (by : ℕ) → NoFive (extended by h ks)
+  unfolding extended gathered grown
+  extended-spare by = by-test NoFive (ltb (h .pending + by) minSize) _ _ (λ e. tt) (λ e. tt)
+
+  module _ (v : (h .bottom .0 ≡ 0 → ⊥) → sound h ks ≡ true) where
+    opened-spare : (ts : List Test) → Spare ts → Spare (openedTests n h ks ++ ts)
+    unfolding refusalNumbers
+    opened-spare ts s = (
+      λ e. absurd (omega arith),
+      λ p. (
+        λ e. absurd (omega arith),
+        λ q. (λ e. rw (v (eqb-false (h .bottom .0) 0 (or-left (same (h .bottom) (addr 0)) false p))), λ e. s),
+      ),
+    )
+
+    decided-spare : (c : Call) → NoFive (decided c n h ks)
+    unfolding decided tests accepted given refusalNumbers
+    decided-spare (opening base named) =
+        unless-spare (tests (opening base named) n h ks) _
+        (λ e. absurd (omega arith), λ e. (λ e. absurd (omega arith), λ e. tt)) tt
+    decided-spare (allocate s align) =
+        unless-spare (tests (allocate s align) n h ks) _
+        (opened-spare (rest (allocate s align) h ks) (λ e. absurd (omega arith), λ e. tt))
+        (taken-spare (rounded s) align (find (rounded s) align ks))
+    decided-spare (free x s align) =
+        unless-spare (tests (free x s align) n h ks) _
+        (opened-spare (rest (free x s align) h ks) (λ e. absurd (omega arith), λ e. (λ e. absurd (omega arith), λ e. tt)))
+        tt
+    decided-spare (extend by) =
+        unless-spare (tests (extend by) n h ks) _
+        (opened-spare (rest (extend by) h ks) (λ e. absurd (omega arith), λ e. tt))
+        (extended-spare by)
+    decided-spare list = unless-spare (tests list n h ks) _ (opened-spare [] tt) tt
+    decided-spare room = unless-spare (tests room n h ks) _ (opened-spare [] tt) tt
+
+whole-sound : (b : Box) → Whole b → (b .heap .bottom .0 ≡ 0 → ⊥) → sound (b .heap) (b .holes) ≡ true
+whole-sound b (inl e) o = absurd (o (rw e))
+whole-sound b (inr s) o = words-sound (b .heap) (b .holes) s
+
+pub whole-spare : (b : Box) → Whole b → (c : Call) (n : ℕ) → comesTo c n b ≡ refused NotSound → ⊥
+unfolding refusalNumbers
+whole-spare b v c n e =
+    let p = rw e at (decided-spare n (b .heap) (b .holes) (whole-sound b v) c) in
+    p refl
+
+pub never-unsound : NeverUnsound
+never-unsound asks fit =
+    let v = ends-whole asks start fit (inl refl) in
+    (v, λ c n f. whole-spare (ends asks start) v c n)
