@@ -5,6 +5,7 @@ use mathlib.Core.Bool.{true, false}
 use mathlib.Core.List.{List, [], _∷_}
 use Prim.Native.Nat.{ℕ, _+_, _%_, _≤_}
 use native.Mathlib.Omega.{arith}
+use lib.Bits.{bitOr, bitAnd, or-mod, or-add-and, and-le-l, and-le-r}
 use borrow.Author.Tests.{leb-true, le-leb, eqb-true, eq-eqb, ne-eqb}
 use denote.Enum.Declared.{tagOf}
 use types.Run.{OneOf}
@@ -38,6 +39,19 @@ rules-keep h floor k e = let r = all-each (headRules h floor k) e in omega (arit
 
 pub keep-rules : (h : Heap) (floor : Addr) (k : Hole) → Keeps h floor k → all (headRules h floor k) ≡ true
 keep-rules h floor k r = each-all (headRules h floor k) (omega (arith, le-leb, eq-eqb))
+
+-- ---- two multiples of 8, tested as one by their `|`
+
+pub both-eight : (a b : ℕ) → bitOr a b % grain ≡ 0 → (a % grain ≡ 0) × (b % grain ≡ 0)
+both-eight a b e =
+    let m : bitOr a b % grain ≡ bitOr (a % grain) (b % grain) = or-mod a b 3 in
+    let s : bitOr (a % grain) (b % grain) + bitAnd (a % grain) (b % grain) ≡ a % grain + b % grain = or-add-and (a % grain) (b % grain) in
+    let l : bitAnd (a % grain) (b % grain) ≤ a % grain = and-le-l (a % grain) (b % grain) in
+    let r : bitAnd (a % grain) (b % grain) ≤ b % grain = and-le-r (a % grain) (b % grain) in
+    (omega arith, omega arith)
+
+pub eight-both : (a b : ℕ) → a % grain ≡ 0 → b % grain ≡ 0 → bitOr a b % grain ≡ 0
+eight-both a b e f = or-mod a b 3 ∙ rw (e, f)
 
 -- ---- what a step is
 

@@ -2,10 +2,13 @@
 use crate::Step;
 use hole::read_head;
 use rules::Addr;
+use rules::GRAIN;
 use rules::Heap;
 use rules::Hole;
+use rules::MIN_SIZE;
 use rules::NONE;
 use rules::Place;
+use std::num::wrapping_sub_u64;
 ghost use mathlib.Core.Path.{_≡_};
 ghost use Rattle.rules.proofs.Walk.{Fair};
 ghost use Rattle.cursor.specs.Walk.{Lent, startOf, lastOf, stepOf};
@@ -20,7 +23,7 @@ pub fn first_floor(h: Heap) -> Addr
     if h.first.0 == bottom - h.base.0 {
         return Addr(bottom);
     }
-    Addr(bottom + 16)
+    Addr(bottom + MIN_SIZE)
 }
 
 // Behind the last head 0 or at least 16 bytes are left.
@@ -32,13 +35,15 @@ fn last(h: Heap, floor: Addr) -> Step
     if floor.0 <= top {
         return Step::End;
     }
-    if floor.0 == top + 16 {
+    if floor.0 == top + MIN_SIZE {
         return Step::End;
     }
     Step::Bad
 }
 
-// What stands at a place, the next hole lying nowhere below the floor.
+// What stands at a place, the next hole lying nowhere below the floor. The tests are joined so that a
+// head costs few instructions: a place within reach is not none; two multiples of 8 are tested as one,
+// by their `|`; and a size below the least wraps far beyond what is left up to top.
 pub fn next(h: Heap, arena: &[u8], at: Place, floor: Addr) -> Step
     requires { ⌜ Lent h (now arena) ⌝ }
     ensures { λ r. ⌜ r ≡ stepOf h (now (arena .entry)) at floor ⌝ }
@@ -46,10 +51,10 @@ pub fn next(h: Heap, arena: &[u8], at: Place, floor: Addr) -> Step
     let base = h.base.0;
     let top = h.top.0;
     let p = at.0;
-    if p == NONE {
-        return last(h, floor);
-    }
-    if top - base - 16 < p {
+    if top - base - MIN_SIZE < p {
+        if p == NONE {
+            return last(h, floor);
+        }
         return Step::Bad;
     }
     let head = read_head(arena, at);
@@ -58,16 +63,11 @@ pub fn next(h: Heap, arena: &[u8], at: Place, floor: Addr) -> Step
     if addr < floor.0 {
         return Step::Bad;
     }
-    if addr % 8 != 0 {
+    if (addr | size) % GRAIN != 0 {
         return Step::Bad;
     }
-    if size % 8 != 0 {
-        return Step::Bad;
-    }
-    if size < 16 {
-        return Step::Bad;
-    }
-    if top - addr < size {
+    let more = wrapping_sub_u64(size, MIN_SIZE);
+    if top - addr - MIN_SIZE < more {
         return Step::Bad;
     }
     let next = head.next;

@@ -4,6 +4,7 @@ use crate::Walked;
 use crate::next;
 use rules::Addr;
 use rules::Heap;
+use rules::MIN_SIZE;
 use rules::Place;
 ghost use mathlib.Core.Path.{_≡_};
 ghost use Prim.Native.Nat.{ℕ, _+_, _≤_, max};
@@ -51,7 +52,7 @@ pub fn walk(h: Heap, arena: &[u8], from: Place, low: Addr, before: u64) -> Walke
         total += hole.size;
         count += 1;
         largest = larger(largest, hole.size);
-        floor = Addr(hole.addr.0 + hole.size + 16);
+        floor = Addr(hole.addr.0 + hole.size + MIN_SIZE);
         at = next;
     }
 }

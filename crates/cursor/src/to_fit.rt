@@ -9,6 +9,7 @@ use align::align_up;
 use rules::Addr;
 use rules::Heap;
 use rules::Hole;
+use rules::MIN_SIZE;
 use rules::NONE;
 use rules::Place;
 ghost use mathlib.Core.Path.{_≡_};
@@ -28,7 +29,7 @@ pub fn candidate(addr: Addr, align: u64) -> Addr
     if addr.0 & (align - 1) == 0 {
         return addr;
     }
-    align_up(Addr(addr.0 + 16), align)
+    align_up(Addr(addr.0 + MIN_SIZE), align)
 }
 
 // The rounded size fits in the hole, and what remains behind is 0 or at least 16.
@@ -49,7 +50,7 @@ fn suits(hole: Hole, want: u64, align: u64) -> bool
     if stop == end {
         return true;
     }
-    stop + 16 <= end
+    stop + MIN_SIZE <= end
 }
 
 // The end of the search, by the step that found no hole.
@@ -89,7 +90,7 @@ pub fn first_fit(h: Heap, arena: &[u8], want: u64, align: u64) -> Search
         if suits(hole, want, align) {
             break hole;
         }
-        floor = Addr(hole.addr.0 + hole.size + 16);
+        floor = Addr(hole.addr.0 + hole.size + MIN_SIZE);
         cursor = Cursor {
             prev: at,
             hole: next,

@@ -7,6 +7,7 @@ use crate::first_floor;
 use crate::next;
 use rules::Addr;
 use rules::Heap;
+use rules::MIN_SIZE;
 use rules::NONE;
 use rules::Place;
 ghost use mathlib.Core.Path.{_≡_};
@@ -54,7 +55,7 @@ pub fn neighbours(h: Heap, arena: &[u8], addr: Addr) -> Spot
             break;
         }
         total += hole.size;
-        floor = Addr(hole.addr.0 + hole.size + 16);
+        floor = Addr(hole.addr.0 + hole.size + MIN_SIZE);
         cursor = Cursor {
             prev: at,
             hole: next,

@@ -12,6 +12,7 @@ use numbers::check;
 use rules::Addr;
 use rules::Answer;
 use rules::Heap;
+use rules::MIN_SIZE;
 use rules::Refusal;
 ghost use mathlib.Core.Path.{_≡_};
 ghost use Prim.Native.Nat.{min};
@@ -82,7 +83,7 @@ fn fill(h: Heap, arena: &[u8], addrs: &mut [u64], sizes: &mut [u64])
         };
         addrs[i] = hole.addr.0;
         sizes[i] = hole.size;
-        floor = Addr(hole.addr.0 + hole.size + 16);
+        floor = Addr(hole.addr.0 + hole.size + MIN_SIZE);
         at = after;
         i += 1;
     }

@@ -9,8 +9,10 @@ use cursor::walk;
 use rules::Addr;
 use rules::Answer;
 use rules::Done;
+use rules::GRAIN;
 use rules::Heap;
 use rules::Hole;
+use rules::MIN_SIZE;
 use rules::NONE;
 use rules::Refusal;
 ghost use mathlib.Core.Path.{_≡_};
@@ -33,7 +35,7 @@ fn keeps_gap(lo: Addr, hi: Addr) -> bool
     if hi.0 < lo.0 {
         return false;
     }
-    hi.0 - lo.0 != 8
+    hi.0 - lo.0 != GRAIN
 }
 
 // The span lies inside [bottom, top) and leaves no 8 bytes to either.
@@ -64,7 +66,7 @@ fn between(h: Heap, near: Near, span: Hole) -> bool
     let addr = span.addr;
     let cursor = near.cursor;
     if cursor.prev.0 != NONE {
-        if !keeps_gap(Addr(near.floor.0 - 16), addr) {
+        if !keeps_gap(Addr(near.floor.0 - MIN_SIZE), addr) {
             return false;
         }
     }
@@ -80,7 +82,7 @@ fn may_free(h: Heap, near: Near, span: Hole, align: u64) -> bool
     ensures { λ r. ⌜ r ≡ mayFree h near span align ⌝ }
 {
     let addr = span.addr.0;
-    if addr % 8 != 0 {
+    if addr % GRAIN != 0 {
         return false;
     }
     if addr & (align - 1) != 0 {

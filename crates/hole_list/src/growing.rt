@@ -8,8 +8,10 @@ use cursor::neighbours;
 use rules::Addr;
 use rules::Answer;
 use rules::Done;
+use rules::GRAIN;
 use rules::Heap;
 use rules::Hole;
+use rules::MIN_SIZE;
 use rules::Refusal;
 ghost use mathlib.Core.Path.{_≡_};
 ghost use Prim.Native.Nat.{_+_, _%_, _≤_};
@@ -43,7 +45,7 @@ fn grow(h: Heap, arena: &mut [u8], cursor: Cursor, by: u64) -> Done
     requires { ⌜ Settled h (now arena) × (h .top .0 + by ≤ h .base .0 + h .len) × Free h (holes h (now arena)) cursor (hole (h .top) (downTo grain by)) ⌝ }
     ensures { λ r. ⌜ Is (leaves h (now (arena .entry)) (grown (downTo grain by) (by % grain) h (holes h (now (arena .entry))))) r (now (arena .exit)) ⌝ }
 {
-    let pending = by % 8;
+    let pending = by % GRAIN;
     let size = by - pending;
     let addr = h.top;
     let next = insert(h, arena, cursor, Hole { addr, size });
@@ -79,7 +81,7 @@ pub fn extend(h: Heap, arena: &mut [u8], by: u64) -> Done
         return refuse(h, Refusal::PastArena);
     }
     let sum = h.pending + by;
-    if sum < 16 {
+    if sum < MIN_SIZE {
         return gather(h, sum);
     }
     let cursor = near.cursor;

@@ -24,7 +24,7 @@ pub fn new(arena: &mut [u8], len: u64, base: Addr, named: u64) -> Heap
     let bottom = align_up(base, GRAIN);
     let skipped = bottom.0 - base.0;
     let left = named - skipped;
-    let pending = left % 8;
+    let pending = left % GRAIN;
     let size = left - pending;
     let first = Place(skipped);
     put_head(

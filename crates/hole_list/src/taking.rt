@@ -13,6 +13,7 @@ use rules::Addr;
 use rules::Answer;
 use rules::Done;
 use rules::Heap;
+use rules::MIN_SIZE;
 use rules::Refusal;
 ghost use mathlib.Core.Path.{_≡_};
 ghost use Rattle.rules.specs.Kinds.{none};
@@ -79,7 +80,7 @@ pub fn allocate_first_fit(h: Heap, arena: &mut [u8], want: u64, align: u64) -> D
     };
     let hole = fit.hole;
     let next = fit.next;
-    let floor = Addr(hole.addr.0 + hole.size + 16);
+    let floor = Addr(hole.addr.0 + hole.size + MIN_SIZE);
     if adds_up(h, walk(h, arena, next, floor, fit.total)) {
         return split_current(h, arena, fit, want, align);
     }

@@ -6,6 +6,7 @@ use rules::ARENA_LIMIT;
 use rules::Addr;
 use rules::GRAIN;
 use rules::Heap;
+use rules::MIN_SIZE;
 use rules::Refusal;
 ghost use mathlib.Core.Path.{_≡_};
 ghost use Rattle.rules.specs.Tests.{any};
@@ -24,10 +25,10 @@ fn sound_top(h: Heap) -> bool
         return false;
     }
     let size = top - bottom;
-    if size % 8 != 0 {
+    if size % GRAIN != 0 {
         return false;
     }
-    if size < 16 {
+    if size < MIN_SIZE {
         return false;
     }
     if 15 < h.pending {
@@ -94,5 +95,5 @@ pub fn bad_opening(len: u64, base: Addr, named: u64) -> bool
     if len < named {
         return true;
     }
-    named < align_up(base, GRAIN).0 - base.0 + 16
+    named < align_up(base, GRAIN).0 - base.0 + MIN_SIZE
 }

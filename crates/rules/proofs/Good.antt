@@ -14,14 +14,14 @@ use Rattle.rules.specs.declared.Heap.{Heap}
 use Rattle.rules.specs.Fixed.{addrLimit, width}
 use Rattle.rules.specs.Tests.{any}
 use Rattle.rules.specs.Holes.{firstOf}
-use Rattle.rules.specs.Sound.{holes}
+use Rattle.rules.specs.Sound.{most, holes}
 use Rattle.rules.specs.Allocate.{rounded}
 use Rattle.rules.specs.Calls.{Call, accepted, renewed}
 use Rattle.rules.specs.Refusals.{refusal6, unless}
 use Rattle.rules.specs.Outcome.{outcome}
 use Rattle.rules.specs.Demands.{Good, Valid, Becomes}
 use Rattle.rules.proofs.Powers.{power-one}
-use Rattle.rules.proofs.Walk.{sound-fair}
+use Rattle.rules.proofs.Walk.{sound-fair, sound-count}
 use Rattle.rules.proofs.Rises.{Rises, sound-rises}
 use Rattle.rules.proofs.Decide.{sifted, unless-fair, rest, Opens, decided-later}
 use Rattle.rules.proofs.SoundWords.{rounds-rounded, words-numbers, words-holes}
@@ -39,6 +39,9 @@ good-outcome c h m later g =
 
 pub good-rises : (h : Heap) (m : List ℕ) → Good h m → Rises (h .bottom .0) (h .top .0) (holes h m)
 good-rises h m g = sound-rises h (sound-fair h (words-numbers h (g .1 .0))) (holes h m) (words-holes h (holes h m) (g .1 .1))
+
+pub good-count : (h : Heap) (m : List ℕ) → Good h m → length (holes h m) ≤ most h
+good-count h m g = sound-count h (sound-fair h (words-numbers h (g .1 .0))) (holes h m) (words-holes h (holes h m) (g .1 .1))
 
 pub valid-passes : (s align r : ℕ) → Valid s align r → any (refusal6 s align) ≡ false
 valid-passes s align r v =

@@ -1,7 +1,9 @@
 -- Demand 2: a request gets the lowest address that the paper allows, and is refused for room exactly when there is none. Assumes nothing.
 use mathlib.Core.Path.{_≡_, refl, ap, _∙_}
-use mathlib.Core.List.{List, _++_, append-assoc}
+use mathlib.Core.List.{List, _∷_, _++_, append-assoc}
 use Prim.Native.Nat.{ℕ, _+_}
+use native.Mathlib.Omega.{arith}
+use lib.ListN.{length, length-append}
 use Rattle.rules.specs.declared.Hole.{Hole}
 use Rattle.rules.specs.declared.Heap.{Heap}
 use Rattle.rules.specs.Kinds.{plus}
@@ -16,7 +18,7 @@ use Rattle.rules.proofs.Powers.{power-pos}
 use Rattle.rules.proofs.Used.{find-splits, used-rises}
 use Rattle.rules.proofs.SoundWords.{rounds-rounded}
 use Rattle.rules.proofs.Suits.{Placed, by-found, nothing-room, room-nothing, found-lies, found-lowest}
-use Rattle.rules.proofs.Good.{good-outcome, good-rises, valid-passes, renewed-becomes}
+use Rattle.rules.proofs.Good.{good-outcome, good-rises, good-count, valid-passes, renewed-becomes}
 
 -- the first suiting hole is used, or none is found
 pub allocate-outcome : (h : Heap) (m : List ℕ) (s align r : ℕ) → Good h m → Valid s align r
@@ -50,6 +52,9 @@ module _ (h : Heap) (m : List ℕ) (s align r : ℕ) (g : Good h m) (v : Valid s
             λ x t.
             found-lowest r align (v .power) (holes h m) front back k e (h .bottom .0) (h .top .0) x placed (good-rises h m g) t;
         answer = allocate-outcome h m s align r g v ∙ rw e;
+        few =
+            let n : length (holes h m) ≡ length front + length (k ∷ back) = rw (parts .0) (length-append front (k ∷ back)) in
+            omega (arith, good-count h m g);
         split =
             ap (λ (l : List Hole). front ++ l) (append-assoc (remains (k .addr) c) (remains (plus c r) (end k)) back);
         becomes =

@@ -45,7 +45,7 @@ abbrev pub Decides : List Row → Outcome → Type 0
 Decides [] o = (r : Refusal) → o ≡ refused r → ⊥
 Decides (t ∷ ts) o = (t .«exactly-if» → o ≡ refused (t .gives)) × ((t .«exactly-if» → ⊥) → Decides ts o)
 
-abbrev row : Refusal → Type 0 → Row
+abbrev pub row : Refusal → Type 0 → Row
 row r t = record { gives = r; «exactly-if» = t }
 
 -- the table of refusals, for each call in the order of its tests
@@ -132,8 +132,9 @@ pub record Granted (r align : ℕ) (h : Heap) (ks : List Hole) (o : Outcome) : T
   pub one : ks ≡ front ++ (used ∷ back)
   pub lies : Lies r align used at
   pub lowest : (x : ℕ) → RoomAt r align ks x → at ≤ x
-  -- the count is the used hole's place in the list
+  -- the count is the used hole's place in the list, and at most (size + 16) / 32
   pub answer : o ≡ done (Allocated (addr at) (length front + 1)) heap new
+  pub few : length front + 1 ≤ (h .top .0 - h .bottom .0 + 16) / 32
   pub split : new ≡ front ++ (piece (used .addr .0) at ++ (piece (at + r) (endOf used) ++ back))
   pub becomes : Becomes h new (h .top .0) (h .pending) (h .used + r) heap
 
@@ -214,7 +215,7 @@ RoomDoes =
     → (n : ℕ) × Largest (holes h m) n × (outcome room h m ≡ told (Room n (length (holes h m))) [])
 
 -- the i-th number of a row: of the i-th hole, as far as the shorter row holds; else what stood there
-abbrev rowAt : (Hole → ℕ) → List Hole → ℕ → List ℕ → List ℕ → Type 0
+abbrev pub rowAt : (Hole → ℕ) → List Hole → ℕ → List ℕ → List ℕ → Type 0
 rowAt f ks n row row′ =
     (length row′ ≡ length row)
     × ((front back : List Hole) (k : Hole) → ks ≡ front ++ (k ∷ back) → length front < n → getD row′ (length front) 0 ≡ f k)

@@ -1,31 +1,32 @@
 -- `cursor::one_step::next` meets its contract: each test that returns is a rule that the head breaks. Assumes nothing.
 use mathlib.Core.Path.{refl, _∙_}
+use Prim.Native.Nat.{_+_}
 use native.Mathlib.Omega.{arith}
 use borrow.Author.Needs.{needs}
 use Rattle.rules.specs.Holes.{headAt}
-use Rattle.cursor.proofs.OneStep.{ended, kept, broken}
+use Rattle.cursor.proofs.OneStep.{ended, kept, broken, both-eight, eight-both}
 use Rattle.cursor.proofs.one_step.next.Statement.{statement}
 use Rattle.cursor.proofs.one_step.next.Tie as tie
+
+sub-if1 : tie.Need-sub-if1
+sub-if1 c = search needs
+
+sub-if1-2 : tie.Need-sub-if1-2
+sub-if1-2 c = search needs
 
 last-requires : tie.Need-last-requires
 last-requires c κs = search needs
 
 returns : tie.Need-returns
 returns c =
-    let a = c .before .before .before .args in
-    c .last .ensures ∙ ended (a .h) (a .arena .now) (a .at) (a .floor) (c .before .if1 .taken)
-
-sub-if2 : tie.Need-sub-if2
-sub-if2 c = search needs
-
-sub-if2-2 : tie.Need-sub-if2-2
-sub-if2-2 c = search needs
+    let a = c .before .before .before .before .args in
+    c .last .ensures ∙ ended (a .h) (a .arena .now) (a .at) (a .floor) (c .before .if2 .taken)
 
 returns-2 : tie.Need-returns-2
 returns-2 c =
     let a = c .before .before .before .args in
     broken (a .h) (a .arena .now) (a .at) (a .floor)
-    (c .before .if1 .left) (headAt (a .arena .now) (a .at)) refl (λ r. omega arith)
+    (c .if2 .left) (headAt (a .arena .now) (a .at)) refl (λ r. omega arith)
 
 read-head-requires : tie.Need-read-head-requires
 read-head-requires c κs = search needs
@@ -36,63 +37,57 @@ add-addr c = search needs
 returns-3 : tie.Need-returns-3
 returns-3 c =
     let s = c .before .before in
-    let a = s .before .before .before .before .args in
+    let a = s .before .before .before .args in
     broken (a .h) (a .arena .now) (a .at) (a .floor)
-    (s .before .before .if1 .left) (s .read-head .result) (s .read-head .ensures) (λ r. omega arith)
+    (λ e. omega (arith, e)) (s .read-head .result) (s .read-head .ensures) (λ r. omega arith)
 
 returns-4 : tie.Need-returns-4
 returns-4 c =
     let s = c .before .before .before in
-    let a = s .before .before .before .before .args in
+    let a = s .before .before .before .args in
     broken (a .h) (a .arena .now) (a .at) (a .floor)
-    (s .before .before .if1 .left) (s .read-head .result) (s .read-head .ensures) (λ r. omega arith)
+    (λ e. omega (arith, e)) (s .read-head .result) (s .read-head .ensures)
+    (λ r. c .if4 .taken (eight-both _ _ (r .addr8) (r .size8)))
+
+wrapping-sub-u64-requires : tie.Need-wrapping-sub-u64-requires
+wrapping-sub-u64-requires c κs = search needs
+
+sub-if5 : tie.Need-sub-if5
+sub-if5 c = search needs
+
+sub-if5-2 : tie.Need-sub-if5-2
+sub-if5-2 c = search needs
 
 returns-5 : tie.Need-returns-5
 returns-5 c =
-    let s = c .before .before .before .before in
-    let a = s .before .before .before .before .args in
+    let s = c .before .before .before .before .before in
+    let a = s .before .before .before .args in
     broken (a .h) (a .arena .now) (a .at) (a .floor)
-    (s .before .before .if1 .left) (s .read-head .result) (s .read-head .ensures) (λ r. omega arith)
+    (λ e. omega (arith, e)) (s .read-head .result) (s .read-head .ensures) (λ r. omega arith)
 
 returns-6 : tie.Need-returns-6
 returns-6 c =
-    let s = c .before .before .before .before .before in
-    let a = s .before .before .before .before .args in
-    broken (a .h) (a .arena .now) (a .at) (a .floor)
-    (s .before .before .if1 .left) (s .read-head .result) (s .read-head .ensures) (λ r. omega arith)
-
-sub-if7 : tie.Need-sub-if7
-sub-if7 c = search needs
-
-returns-7 : tie.Need-returns-7
-returns-7 c =
     let s = c .before .before .before .before .before .before in
-    let a = s .before .before .before .before .args in
-    broken (a .h) (a .arena .now) (a .at) (a .floor)
-    (s .before .before .if1 .left) (s .read-head .result) (s .read-head .ensures) (λ r. omega arith)
-
-returns-8 : tie.Need-returns-8
-returns-8 c =
-    let s = c .before .before .before .before .before .before .before in
-    let a = s .before .before .before .before .args in
+    let a = s .before .before .before .args in
+    let eights = both-eight (a .h .base .0 + a .at .0) (s .read-head .result .size) (c .before .before .before .if4 .left) in
     kept (a .h) (a .arena .now) (a .at) (a .floor)
-    (s .before .before .if1 .left) (s .read-head .result) (s .read-head .ensures) (omega arith)
+    (λ e. omega (arith, e)) (s .read-head .result) (s .read-head .ensures) (omega arith)
 
 pub next-spec : {M : Type 1} → statement M
 next-spec =
     tie.close
     (tie.spec
+    sub-if1
+    sub-if1-2
     last-requires
     returns
-    sub-if2
-    sub-if2-2
     returns-2
     read-head-requires
     add-addr
     returns-3
     returns-4
+    wrapping-sub-u64-requires
+    sub-if5
+    sub-if5-2
     returns-5
-    returns-6
-    sub-if7
-    returns-7
-    returns-8)
+    returns-6)

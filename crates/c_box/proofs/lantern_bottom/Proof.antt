@@ -1,0 +1,16 @@
+-- `c_box::lantern_bottom` meets its contract: it is `numbers::bottom` on the heap that the words say. Assumes nothing.
+use borrow.Author.Needs.{needs}
+use Rattle.c_box.proofs.lantern_bottom.Statement.{statement}
+use Rattle.c_box.proofs.lantern_bottom.Tie as tie
+
+load-requires : tie.Need-load-requires
+load-requires c κs = search needs
+
+bottom-requires : tie.Need-bottom-requires
+bottom-requires c κs = search needs
+
+returns : tie.Need-returns
+returns c = cc
+
+pub lantern-bottom-spec : {M : Type 1} → statement M
+lantern-bottom-spec = tie.close (tie.spec load-requires bottom-requires returns)

@@ -1,0 +1,30 @@
+-- `c_box::lantern_free` meets its contract: it is `heap::free` on the heap that the words say. Assumes nothing.
+use borrow.Author.Needs.{needs}
+use Rattle.rules.specs.Kinds.{addr}
+use Rattle.rules.specs.Calls.{free}
+use Rattle.c_box.proofs.Shown.{shown}
+use Rattle.c_box.proofs.lantern_free.Statement.{statement}
+use Rattle.c_box.proofs.lantern_free.Tie as tie
+
+load-requires : tie.Need-load-requires
+load-requires c κs = search needs
+
+free-requires : tie.Need-free-requires
+free-requires c κs = search needs
+
+show-requires : tie.Need-show-requires
+show-requires c κs = search needs
+
+same-length : tie.Need-same-length
+same-length c = search needs
+
+returns : tie.Need-returns
+returns c =
+    let a = c .before .before .before .before .before in
+    let l = a .before .before in
+    let s = l .before .before .before in
+    shown (free (addr (s .args .at)) (s .args .size) (s .args .align)) (s .args .heap .now) (s .args .arena .now) (l .load .ensures) (a .free .result) (a .free .ensures) (c .show .ensures)
+
+pub lantern-free-spec : {M : Type 1} → statement M
+lantern-free-spec =
+    tie.close (tie.spec load-requires free-requires show-requires same-length returns)

@@ -1,0 +1,16 @@
+-- `c_box::lantern_free_bytes` meets its contract: it is `numbers::free_bytes` on the heap that the words say. Assumes nothing.
+use borrow.Author.Needs.{needs}
+use Rattle.c_box.proofs.lantern_free_bytes.Statement.{statement}
+use Rattle.c_box.proofs.lantern_free_bytes.Tie as tie
+
+load-requires : tie.Need-load-requires
+load-requires c κs = search needs
+
+free-bytes-requires : tie.Need-free-bytes-requires
+free-bytes-requires c κs = search needs
+
+returns : tie.Need-returns
+returns c = cc
+
+pub lantern-free-bytes-spec : {M : Type 1} → statement M
+lantern-free-bytes-spec = tie.close (tie.spec load-requires free-bytes-requires returns)

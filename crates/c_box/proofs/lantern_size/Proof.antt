@@ -1,0 +1,16 @@
+-- `c_box::lantern_size` meets its contract: it is `numbers::size` on the heap that the words say. Assumes nothing.
+use borrow.Author.Needs.{needs}
+use Rattle.c_box.proofs.lantern_size.Statement.{statement}
+use Rattle.c_box.proofs.lantern_size.Tie as tie
+
+load-requires : tie.Need-load-requires
+load-requires c κs = search needs
+
+size-requires : tie.Need-size-requires
+size-requires c κs = search needs
+
+returns : tie.Need-returns
+returns c = cc
+
+pub lantern-size-spec : {M : Type 1} → statement M
+lantern-size-spec = tie.close (tie.spec load-requires size-requires returns)

@@ -1,0 +1,16 @@
+-- `c_box::lantern_top` meets its contract: it is `numbers::top` on the heap that the words say. Assumes nothing.
+use borrow.Author.Needs.{needs}
+use Rattle.c_box.proofs.lantern_top.Statement.{statement}
+use Rattle.c_box.proofs.lantern_top.Tie as tie
+
+load-requires : tie.Need-load-requires
+load-requires c κs = search needs
+
+top-requires : tie.Need-top-requires
+top-requires c κs = search needs
+
+returns : tie.Need-returns
+returns c = cc
+
+pub lantern-top-spec : {M : Type 1} → statement M
+lantern-top-spec = tie.close (tie.spec load-requires top-requires returns)

@@ -1,0 +1,16 @@
+-- `c_box::lantern_used` meets its contract: it is `numbers::used` on the heap that the words say. Assumes nothing.
+use borrow.Author.Needs.{needs}
+use Rattle.c_box.proofs.lantern_used.Statement.{statement}
+use Rattle.c_box.proofs.lantern_used.Tie as tie
+
+load-requires : tie.Need-load-requires
+load-requires c κs = search needs
+
+used-requires : tie.Need-used-requires
+used-requires c κs = search needs
+
+returns : tie.Need-returns
+returns c = cc
+
+pub lantern-used-spec : {M : Type 1} → statement M
+lantern-used-spec = tie.close (tie.spec load-requires used-requires returns)

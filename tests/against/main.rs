@@ -1,0 +1,647 @@
+//! The original and Leanlantern on the same calls, with the same addresses: our arena is told the address of the original's memory.
+//!
+//!   against run SEED CALLS     random runs: all 16 residues of the base, heaps from 16 bytes to 65,536, scribbles between calls
+//!   against tilings UNITS      every tiling of heaps of up to UNITS times 8 bytes, with every small request, free and extension
+//!   against sample SEED LINES  calls as wire frames to standard output and the original's answers to standard error
+//!   against bench CALLS        both on the same traces, alternating; medians as ratios
+//!   against trace NAME WHO CALLS   one side alone on one trace, for counting instructions
+//!
+//! It stops at the first difference with exit status 1.
+
+#[path = "../../bindings/leanlantern.rs"]
+#[allow(dead_code)]
+mod leanlantern;
+
+use leanlantern::{Lantern, Refused};
+use linked_list_allocator::Heap;
+use std::alloc::Layout;
+use std::ptr::NonNull;
+use std::time::Instant;
+
+const ARENA: usize = 65_536;
+const STEP: usize = 1 << 20;
+
+/// A generator with a fixed seed (xorshift*).
+struct Rng(u64);
+
+impl Rng {
+    fn next(&mut self) -> u64 {
+        self.0 ^= self.0 >> 12;
+        self.0 ^= self.0 << 25;
+        self.0 ^= self.0 >> 27;
+        self.0.wrapping_mul(0x2545_f491_4f6c_dd1d)
+    }
+
+    fn below(&mut self, n: u64) -> u64 {
+        if n == 0 { 0 } else { self.next() % n }
+    }
+
+    fn one_in(&mut self, n: u64) -> bool {
+        self.below(n) == 0
+    }
+}
+
+/// Memory at a multiple of 2^20, so that a run depends on the residue of its base alone, for alignments up to that.
+struct Memory {
+    start: *mut u8,
+}
+
+impl Memory {
+    fn new() -> Memory {
+        let start = unsafe { std::alloc::alloc(Layout::from_size_align(ARENA + STEP, STEP).unwrap()) };
+        assert!(!start.is_null());
+        Memory { start }
+    }
+
+    fn bytes(&mut self, from: usize, len: usize) -> &mut [u8] {
+        unsafe { std::slice::from_raw_parts_mut(self.start.add(from), len) }
+    }
+}
+
+impl Drop for Memory {
+    fn drop(&mut self) {
+        unsafe { std::alloc::dealloc(self.start, Layout::from_size_align(ARENA + STEP, STEP).unwrap()) }
+    }
+}
+
+#[derive(Clone, Copy)]
+struct Held {
+    addr: u64,
+    size: u64,
+    align: u64,
+    stamp: u8,
+}
+
+#[derive(Default)]
+struct Counts {
+    calls: u64,
+    grants: u64,
+    no_room: u64,
+    layouts: u64,
+    frees: u64,
+    extends: u64,
+    lists: u64,
+    holes: u64,
+    most: u64,
+    bytes: u64,
+    runs: u64,
+}
+
+fn differ(what: &str, original: impl std::fmt::Debug, ours: impl std::fmt::Debug) -> ! {
+    eprintln!("DIFFERENCE: {what}: original {original:?}, ours {ours:?}");
+    std::process::exit(1)
+}
+
+fn same<T: PartialEq + std::fmt::Debug>(what: &str, original: T, ours: T) {
+    if original != ours {
+        differ(what, original, ours)
+    }
+}
+
+/// The original and ours, opened alike.
+struct Pair<'a> {
+    heap: Heap,
+    memory: &'a mut Memory,
+    residue: usize,
+    base: u64,
+    len: usize,
+    given: usize,
+    ours: Lantern<'a>,
+    held: Vec<Held>,
+    rows: (Vec<u64>, Vec<u64>),
+}
+
+impl<'a> Pair<'a> {
+    /// None where both say no.
+    fn open(memory: &'a mut Memory, arena: &'a mut [u8], residue: usize, named: usize) -> Option<Pair<'a>> {
+        let len = arena.len();
+        let base = memory.start as u64 + residue as u64;
+        let mut ours = Lantern::new(arena);
+        let answer = ours.open(base, named as u64);
+        let gap = (8 - residue % 8) % 8;
+        let fits = named >= gap && (named - gap) / 8 * 8 >= 16;
+        if !fits {
+            same("opening refused", Err(Refused { number: 1, count: 0 }), answer);
+            return None;
+        }
+        let mut heap = Heap::empty();
+        unsafe { heap.init(memory.start.add(residue), named) };
+        same("opening", Ok((heap.bottom() as u64, heap.size() as u64)), answer);
+        Some(Pair { heap, memory, residue, base, len, given: named, ours, held: Vec::new(), rows: (vec![0; 2049], vec![0; 2049]) })
+    }
+
+    fn original_holes(&self) -> Vec<(u64, u64)> {
+        let mut holes = Vec::new();
+        self.heap.read_list(&mut |a, s| holes.push((a as u64, s as u64)));
+        holes
+    }
+
+    /// Lists, sums and readers of both.
+    fn compare(&mut self, counts: &mut Counts) {
+        let holes = self.original_holes();
+        let (addrs, sizes) = (&mut self.rows.0, &mut self.rows.1);
+        same("list", Ok((holes.len() as u64, self.heap.free() as u64)), self.ours.list(addrs, sizes));
+        for (i, hole) in holes.iter().enumerate() {
+            same("hole", *hole, (addrs[i], sizes[i]));
+        }
+        let largest = holes.iter().map(|h| h.1).max().unwrap_or(0);
+        same("room", Ok((largest, holes.len() as u64)), self.ours.room());
+        same("bottom", self.heap.bottom() as u64, self.ours.bottom());
+        same("top", self.heap.top() as u64, self.ours.top());
+        same("size", self.heap.size() as u64, self.ours.size());
+        same("used", self.heap.used() as u64, self.ours.used());
+        same("free bytes", self.heap.free() as u64, self.ours.free_bytes());
+        same("pending", self.heap.read_pending() as u64, self.ours.words[5]);
+        counts.lists += 1;
+        counts.holes += holes.len() as u64;
+        counts.most = counts.most.max(holes.len() as u64);
+    }
+
+    /// Every byte of every held block is what was written there, on both sides.
+    fn compare_held(&mut self, counts: &mut Counts) {
+        for b in &self.held {
+            let at = (b.addr - self.base) as usize;
+            let theirs = self.memory.bytes(self.residue + at, b.size as usize);
+            if theirs.iter().any(|x| *x != b.stamp) {
+                differ("the original changed a held block", b.addr, b.size)
+            }
+            if self.ours.arena[at..at + b.size as usize].iter().any(|x| *x != b.stamp) {
+                differ("a held block changed", b.addr, b.size)
+            }
+            counts.bytes += b.size;
+        }
+    }
+
+    /// Noise into every byte of the arena but the first 16 of each hole and the held blocks, another on each side.
+    fn scribble(&mut self, rng: &mut Rng) {
+        let mut spared = vec![false; self.len];
+        let heads = self.original_holes().into_iter().map(|(addr, _)| (addr, 16));
+        let blocks = self.held.iter().map(|b| (b.addr, b.size));
+        for (addr, size) in heads.chain(blocks) {
+            let at = (addr - self.base) as usize;
+            spared[at..at + size as usize].fill(true);
+        }
+        let theirs = self.memory.bytes(self.residue, self.len);
+        for i in (0..self.len).filter(|i| !spared[*i]) {
+            theirs[i] = rng.next() as u8;
+            self.ours.arena[i] = rng.next() as u8;
+        }
+    }
+
+    fn stamp(&mut self, b: Held) {
+        let at = (b.addr - self.base) as usize;
+        self.memory.bytes(self.residue + at, b.size as usize).fill(b.stamp);
+        self.ours.arena[at..at + b.size as usize].fill(b.stamp);
+    }
+
+    fn allocate(&mut self, size: u64, align: u64, stamp: u8, counts: &mut Counts) {
+        counts.calls += 1;
+        let before = self.original_holes();
+        let answer = self.ours.allocate(size, align);
+        let layout = match Layout::from_size_align(size as usize, align as usize) {
+            Ok(layout) => layout,
+            Err(_) => {
+                same("no valid layout", Err(Refused { number: 6, count: 0 }), answer);
+                counts.layouts += 1;
+                return;
+            }
+        };
+        match self.heap.allocate_first_fit(layout) {
+            Ok(p) => {
+                let addr = p.as_ptr() as u64;
+                let place = before.iter().position(|h| h.0 <= addr && addr < h.0 + h.1).map(|i| i as u64 + 1).unwrap_or(0);
+                same("grant", Ok((addr, place)), answer);
+                let held = Held { addr, size, align, stamp };
+                self.held.push(held);
+                self.stamp(held);
+                counts.grants += 1;
+            }
+            Err(()) => {
+                // the original does not say which: a layout that overflows when rounded is 6, else there is no room
+                let rounded = (size.max(16) as u128 + 7) / 8 * 8;
+                if rounded + align as u128 > 1 << 63 {
+                    same("layout", Err(Refused { number: 6, count: 0 }), answer);
+                    counts.layouts += 1;
+                } else {
+                    same("no room", Err(Refused { number: 7, count: before.len() as u64 }), answer);
+                    counts.no_room += 1;
+                }
+            }
+        }
+    }
+
+    fn free(&mut self, i: usize, counts: &mut Counts) {
+        counts.calls += 1;
+        counts.frees += 1;
+        let b = self.held.swap_remove(i);
+        let layout = Layout::from_size_align(b.size as usize, b.align as usize).unwrap();
+        unsafe { self.heap.deallocate(NonNull::new(b.addr as *mut u8).unwrap(), layout) };
+        let rounded = (b.size.max(16) + 7) / 8 * 8;
+        same("free", Ok((rounded, self.heap.used() as u64)), self.ours.free(b.addr, b.size, b.align));
+    }
+
+    fn extend(&mut self, by: usize, counts: &mut Counts) {
+        counts.calls += 1;
+        if self.given + by > self.len {
+            same("past the arena", Err(Refused { number: 9, count: 0 }), self.ours.extend(by as u64));
+            return;
+        }
+        self.given += by;
+        counts.extends += 1;
+        unsafe { self.heap.extend(by) };
+        same("extend", Ok((self.heap.size() as u64, self.heap.read_pending() as u64)), self.ours.extend(by as u64));
+    }
+}
+
+fn noise(bytes: &mut [u8], rng: &mut Rng) {
+    for b in bytes {
+        *b = rng.next() as u8;
+    }
+}
+
+fn random_align(rng: &mut Rng) -> u64 {
+    match rng.below(20) {
+        0 => 1 << rng.below(64),
+        1..=4 => 1 << rng.below(17),
+        _ => 1 << rng.below(6),
+    }
+}
+
+fn random_size(rng: &mut Rng, len: u64) -> u64 {
+    match rng.below(24) {
+        0 => rng.next(),
+        1 => rng.below(len + 64),
+        2 => (1 << 63) - rng.below(32),
+        3..=8 => rng.below(300),
+        _ => rng.below(64),
+    }
+}
+
+fn run(seed: u64, calls: u64) -> Counts {
+    let mut rng = Rng(seed | 1);
+    let mut counts = Counts::default();
+    let mut memory = Memory::new();
+    let mut space = vec![0u8; ARENA];
+    while counts.calls < calls {
+        counts.runs += 1;
+        let residue = (counts.runs % 16) as usize;
+        let len = match rng.below(4) {
+            0 => rng.below(64) as usize,
+            1 => rng.below(400) as usize,
+            2 => rng.below(5_000) as usize,
+            _ => rng.below(ARENA as u64 + 1) as usize,
+        };
+        let named = if rng.one_in(2) { len } else { rng.below(len as u64 + 1) as usize };
+        noise(memory.bytes(residue, len), &mut rng);
+        noise(&mut space[..len], &mut rng);
+        let Some(mut pair) = Pair::open(&mut memory, &mut space[..len], residue, named) else { continue };
+        pair.compare(&mut counts);
+        let turns = 20 + rng.below(if len < 1_000 { 200 } else { 1_500 });
+        let keep = rng.below(90);
+        for turn in 0..turns {
+            match rng.below(100) {
+                0..=3 => {
+                    let by = if rng.one_in(3) { rng.below(len as u64 + 40) } else { rng.below(40) };
+                    pair.extend(by as usize, &mut counts)
+                }
+                n if n < 4 + keep && !pair.held.is_empty() => {
+                    let i = rng.below(pair.held.len() as u64) as usize;
+                    pair.free(i, &mut counts)
+                }
+                _ => {
+                    let (size, align, stamp) = (random_size(&mut rng, len as u64), random_align(&mut rng), rng.next() as u8);
+                    pair.allocate(size, align, stamp, &mut counts)
+                }
+            }
+            if len < 1_000 || turn % 64 == 0 {
+                pair.compare(&mut counts);
+                pair.compare_held(&mut counts);
+                if rng.one_in(4) {
+                    pair.scribble(&mut rng);
+                }
+            }
+        }
+        // all given back: one hole from bottom to top
+        while !pair.held.is_empty() {
+            let i = rng.below(pair.held.len() as u64) as usize;
+            pair.free(i, &mut counts);
+        }
+        pair.compare(&mut counts);
+        same("all given back", vec![(pair.heap.bottom() as u64, pair.heap.size() as u64)], pair.original_holes());
+    }
+    counts
+}
+
+/// Every way to cut `units` into stretches of at least 2, each held or free, no two free ones side by side.
+fn tilings(units: usize, free_before: bool, so_far: &mut Vec<(usize, bool)>, all: &mut Vec<Vec<(usize, bool)>>) {
+    if units == 0 {
+        all.push(so_far.clone());
+        return;
+    }
+    for n in 2..=units {
+        if units - n == 1 {
+            continue;
+        }
+        for free in [false, true] {
+            if free && free_before {
+                continue;
+            }
+            so_far.push((n, free));
+            tilings(units - n, free, so_far, all);
+            so_far.pop();
+        }
+    }
+}
+
+fn exhaustive(most: usize) -> Counts {
+    let mut counts = Counts::default();
+    let mut rng = Rng(7);
+    let mut memory = Memory::new();
+    let mut space = vec![0u8; ARENA];
+    for units in 2..=most {
+        let mut all = Vec::new();
+        tilings(units, false, &mut Vec::new(), &mut all);
+        for tiling in &all {
+            for residue in [0usize, 8] {
+                let len = units * 8 + 40;
+                let build = |memory: &mut Memory, space: &mut [u8], counts: &mut Counts, act: &mut dyn FnMut(&mut Pair, &mut Counts)| {
+                    let Some(mut pair) = Pair::open(memory, space, residue, units * 8) else { return };
+                    for (n, _) in tiling {
+                        pair.allocate(*n as u64 * 8, 1, 0x5a, counts);
+                    }
+                    let mut at = pair.base;
+                    for (n, free) in tiling {
+                        if *free {
+                            let i = pair.held.iter().position(|b| b.addr == at).unwrap();
+                            pair.free(i, counts);
+                        }
+                        at += *n as u64 * 8;
+                    }
+                    pair.compare(counts);
+                    act(&mut pair, counts);
+                    pair.compare(counts);
+                    pair.compare_held(counts);
+                    counts.runs += 1;
+                };
+                noise(&mut space[..len], &mut rng);
+                for size in (0..=units as u64 * 8 + 8).step_by(3) {
+                    for align in [1u64, 8, 16, 32, 64] {
+                        build(&mut memory, &mut space[..len], &mut counts, &mut |pair, counts| pair.allocate(size, align, 0x33, counts));
+                    }
+                }
+                for i in 0..tiling.iter().filter(|t| !t.1).count() {
+                    build(&mut memory, &mut space[..len], &mut counts, &mut |pair, counts| pair.free(i, counts));
+                }
+                for by in 0..=40 {
+                    build(&mut memory, &mut space[..len], &mut counts, &mut |pair, counts| {
+                        pair.extend(by, counts);
+                        pair.extend(7, counts)
+                    });
+                }
+            }
+        }
+    }
+    counts
+}
+
+/// Calls as wire frames, and the original's answers as wire lines. Addresses are told from a nominal base, a multiple of 2^20.
+fn sample(seed: u64, lines: u64) {
+    let mut rng = Rng(seed | 1);
+    let mut memory = Memory::new();
+    let mut heap = Heap::empty();
+    let nominal = 0x10_0000u64 + 5;
+    let real = memory.start as u64 + 5;
+    noise(memory.bytes(0, ARENA + 16), &mut rng);
+    let mut given = 40_000usize;
+    println!("01{nominal:016x}{given:016x}");
+    unsafe { heap.init(memory.start.add(5), given) };
+    let tell = |a: u64| a - real + nominal;
+    eprintln!("00{:016x}{:016x}", tell(heap.bottom() as u64), heap.size());
+    let mut held: Vec<(u64, u64, u64)> = Vec::new();
+    let list = |heap: &Heap| {
+        let mut holes = Vec::new();
+        heap.read_list(&mut |a, s| holes.push((a as u64, s as u64)));
+        holes
+    };
+    for _ in 1..lines {
+        match rng.below(40) {
+            0 => {
+                let by = rng.below(60) as usize;
+                println!("04{by:016x}");
+                if given + by > ARENA {
+                    eprintln!("09{:016x}{:016x}", 0, 0);
+                } else {
+                    given += by;
+                    unsafe { heap.extend(by) };
+                    eprintln!("00{:016x}{:016x}", heap.size(), heap.read_pending());
+                }
+            }
+            1 => {
+                println!("05");
+                let holes = list(&heap);
+                eprintln!("00{:016x}{:016x}", holes.len(), heap.free());
+                for (a, s) in holes {
+                    eprintln!("20{:016x}{:016x}", tell(a), s);
+                }
+            }
+            2 => {
+                println!("06");
+                let holes = list(&heap);
+                eprintln!("00{:016x}{:016x}", holes.iter().map(|h| h.1).max().unwrap_or(0), holes.len());
+            }
+            n if n < 18 && !held.is_empty() => {
+                let (a, s, g) = held.swap_remove(rng.below(held.len() as u64) as usize);
+                println!("03{:016x}{s:016x}{g:016x}", tell(a));
+                unsafe { heap.deallocate(NonNull::new(a as *mut u8).unwrap(), Layout::from_size_align(s as usize, g as usize).unwrap()) };
+                eprintln!("00{:016x}{:016x}", (s.max(16) + 7) / 8 * 8, heap.used());
+            }
+            _ => {
+                let size = if rng.one_in(30) { rng.below(70_000) } else { rng.below(400) };
+                let align = 1u64 << rng.below(13);
+                println!("02{size:016x}{align:016x}");
+                let before = list(&heap);
+                match heap.allocate_first_fit(Layout::from_size_align(size as usize, align as usize).unwrap()) {
+                    Ok(p) => {
+                        let a = p.as_ptr() as u64;
+                        let place = before.iter().position(|h| h.0 <= a && a < h.0 + h.1).unwrap() + 1;
+                        eprintln!("00{:016x}{:016x}", tell(a), place);
+                        held.push((a, size, align));
+                    }
+                    Err(()) => eprintln!("07{:016x}{:016x}", 0, before.len()),
+                }
+            }
+        }
+    }
+}
+
+#[derive(Clone, Copy)]
+enum Turn {
+    Take(u64, u64),
+    Give(usize),
+}
+
+/// Classes of slots in a trace, and how many blocks are out at a time.
+const CLASSES: usize = 6;
+const OUT: usize = 16;
+
+fn class_size(class: u64) -> u64 {
+    24 + 8 * class
+}
+
+/// A trace: the sizes of slots and of the pins between them, in turn, and then the turns. The pins stay, so that about `holes` holes
+/// stay too; a slot's class rises along the list, so that a request's class says how far along its hole is. Mixed requests find it early,
+/// with sizes and alignments of all kinds; deep ones only far along.
+fn trace(name: &str, calls: usize, holes: usize) -> (Vec<u64>, Vec<Turn>) {
+    let mut rng = Rng(0x1eaf);
+    let first = (0..holes).flat_map(|i| [class_size((i * CLASSES / holes) as u64), 16]).collect();
+    let mut turns = Vec::new();
+    for n in 0..calls {
+        if n < OUT || n % 2 == 0 {
+            let mut draw = || rng.below(CLASSES as u64);
+            if name == "deep" {
+                let class = draw().max(draw());
+                turns.push(Turn::Take(class_size(class), 8));
+            } else {
+                let class = draw().min(draw()).min(draw());
+                turns.push(Turn::Take(class_size(class) - rng.below(8), 1 << rng.below(6)));
+            }
+        } else {
+            turns.push(Turn::Give(rng.below(1 << 30) as usize));
+        }
+    }
+    (first, turns)
+}
+
+/// What both sides must share of a trace, and the holes that the requests looked at, which only ours counts.
+#[derive(Default)]
+struct Driven {
+    sum: u64,
+    grants: u64,
+    looked: u64,
+}
+
+fn drive(turns: &[Turn], take: &mut dyn FnMut(u64, u64) -> Option<(u64, u64)>, give: &mut dyn FnMut(u64, u64, u64)) -> Driven {
+    let mut held: Vec<(u64, u64, u64)> = Vec::new();
+    let mut driven = Driven::default();
+    for t in turns {
+        match *t {
+            Turn::Take(size, align) => {
+                if let Some((a, looked)) = take(size, align) {
+                    driven.sum = driven.sum.wrapping_add(a);
+                    driven.grants += 1;
+                    driven.looked += looked;
+                    held.push((a, size, align));
+                }
+            }
+            Turn::Give(i) => {
+                if !held.is_empty() {
+                    let k = i % held.len();
+                    let (a, s, g) = held.swap_remove(k);
+                    give(a, s, g);
+                }
+            }
+        }
+    }
+    driven
+}
+
+/// One side on one trace: nanoseconds for the turns alone, what came of them, and the number of holes at the end.
+fn side(who: &str, first: &[u64], turns: &[Turn], memory: &mut Memory, space: &mut [u8]) -> (u128, Driven, usize) {
+    let base = memory.start as u64;
+    let mut heap = Heap::empty();
+    let mut ours = Lantern::new(space);
+    let original = who == "original";
+    if original {
+        unsafe { heap.init(memory.start, ARENA) };
+    } else {
+        ours.open(base, ARENA as u64).unwrap();
+    }
+    let layout = |s: u64, a: u64| Layout::from_size_align(s as usize, a as usize).unwrap();
+    let laid: Vec<u64> = first
+        .iter()
+        .map(|s| if original { heap.allocate_first_fit(layout(*s, 8)).unwrap().as_ptr() as u64 } else { ours.allocate(*s, 8).unwrap().0 })
+        .collect();
+    for i in (0..laid.len()).step_by(2) {
+        if original {
+            unsafe { heap.deallocate(NonNull::new(laid[i] as *mut u8).unwrap(), layout(first[i], 8)) };
+        } else {
+            ours.free(laid[i], first[i], 8).unwrap();
+        }
+    }
+    let began = Instant::now();
+    let driven = if original {
+        let heap = std::cell::RefCell::new(&mut heap);
+        drive(
+            turns,
+            &mut |s, a| heap.borrow_mut().allocate_first_fit(layout(s, a)).ok().map(|p| (p.as_ptr() as u64, 0)),
+            &mut |p, s, a| unsafe { heap.borrow_mut().deallocate(NonNull::new(p as *mut u8).unwrap(), layout(s, a)) },
+        )
+    } else {
+        let ours = std::cell::RefCell::new(&mut ours);
+        drive(
+            turns,
+            &mut |s, a| ours.borrow_mut().allocate(s, a).ok(),
+            &mut |p, s, a| {
+                ours.borrow_mut().free(p, s, a).unwrap();
+            },
+        )
+    };
+    let took = began.elapsed().as_nanos();
+    let mut n = 0;
+    if original {
+        heap.read_list(&mut |_, _| n += 1);
+    } else {
+        n = ours.room().unwrap().1 as usize;
+    }
+    (took, driven, n)
+}
+
+fn median(mut xs: Vec<f64>) -> f64 {
+    xs.sort_by(|a, b| a.partial_cmp(b).unwrap());
+    xs[xs.len() / 2]
+}
+
+fn bench(calls: usize) {
+    let mut memory = Memory::new();
+    let mut space = vec![0u8; ARENA];
+    println!("trace  holes  looked at per grant  original ns/call  ours ns/call  ratio (medians of 9, alternating)");
+    for (name, holes) in [("mixed", 500), ("deep", 500), ("mixed", 50), ("mixed", 1000)] {
+        let (first, turns) = trace(name, calls, holes);
+        let (mut a, mut b, mut r) = (Vec::new(), Vec::new(), Vec::new());
+        let (mut left, mut looked) = (0, 0.0);
+        for _ in 0..9 {
+            let x = side("original", &first, &turns, &mut memory, &mut space);
+            let y = side("ours", &first, &turns, &mut memory, &mut space);
+            same("bench", (x.1.sum, x.1.grants, x.2), (y.1.sum, y.1.grants, y.2));
+            left = x.2;
+            looked = y.1.looked as f64 / y.1.grants as f64;
+            a.push(x.0 as f64 / calls as f64);
+            b.push(y.0 as f64 / calls as f64);
+            r.push(y.0 as f64 / x.0 as f64);
+        }
+        println!("{name:6} {left:5}  {looked:19.0}  {:16.1}  {:12.1}  {:5.2}", median(a), median(b), median(r));
+    }
+}
+
+fn main() {
+    let args: Vec<String> = std::env::args().collect();
+    let number = |i: usize| args.get(i).and_then(|s| s.parse::<u64>().ok()).unwrap_or_else(|| panic!("a number is missing"));
+    let counts = match args.get(1).map(|s| s.as_str()) {
+        Some("run") => run(number(2), number(3)),
+        Some("tilings") => exhaustive(number(2) as usize),
+        Some("sample") => return sample(number(2), number(3)),
+        Some("bench") => return bench(number(2) as usize),
+        Some("trace") => {
+            let (first, turns) = trace(&args[2], number(4) as usize, 500);
+            let (mut memory, mut space) = (Memory::new(), vec![0u8; ARENA]);
+            let out = side(&args[3], &first, &turns, &mut memory, &mut space);
+            println!("{} {}", out.1.sum, out.2);
+            return;
+        }
+        _ => panic!("usage: against run SEED CALLS | tilings UNITS | sample SEED LINES | bench CALLS | trace NAME WHO CALLS"),
+    };
+    println!(
+        "agree: {} calls in {} runs ({} grants, {} without room, {} bad layouts, {} frees, {} extensions); {} lists with {} holes, at most {}; {} held bytes",
+        counts.calls, counts.runs, counts.grants, counts.no_room, counts.layouts, counts.frees, counts.extends, counts.lists, counts.holes, counts.most, counts.bytes
+    );
+}
