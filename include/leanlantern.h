@@ -16,7 +16,8 @@
  *   4 arena of another length                  9 the arena ends before that
  *   5 heap not sound
  *
- * Any words and any bytes may be lent: every call ends with its answer. The arrays of one call must not overlap.
+ * Any words and any bytes may be lent: every call ends with its answer. The arrays of one call must have the lengths told, must not
+ * overlap, and no pointer is null, not even to an array of length 0.
  */
 #ifndef LEANLANTERN_H
 #define LEANLANTERN_H

@@ -2,7 +2,7 @@
 //!
 //!   against run SEED CALLS     random runs: all 16 residues of the base, heaps from 16 bytes to 65,536, scribbles between calls
 //!   against tilings UNITS      every tiling of heaps of up to UNITS times 8 bytes, with every small request, free and extension
-//!   against sample SEED LINES  calls as wire frames to standard output and the original's answers to standard error
+//!   against sample SEED LINES  calls as wire frames, each followed by the original's lines, marked by '='
 //!   against bench CALLS        both on the same traces, alternating; medians as ratios
 //!   against trace NAME WHO CALLS   one side alone on one trace, for counting instructions
 //!
@@ -41,16 +41,21 @@ impl Rng {
     }
 }
 
-/// Memory at a multiple of 2^20, so that a run depends on the residue of its base alone, for alignments up to that.
+/// Memory at an odd multiple of 2^20: no larger alignment is met in it, so that a run depends on its seed alone and not on where the
+/// memory happens to lie.
 struct Memory {
     start: *mut u8,
 }
 
 impl Memory {
+    fn layout() -> Layout {
+        Layout::from_size_align(STEP + ARENA + 16, 2 * STEP).unwrap()
+    }
+
     fn new() -> Memory {
-        let start = unsafe { std::alloc::alloc(Layout::from_size_align(ARENA + STEP, STEP).unwrap()) };
-        assert!(!start.is_null());
-        Memory { start }
+        let whole = unsafe { std::alloc::alloc(Memory::layout()) };
+        assert!(!whole.is_null());
+        Memory { start: unsafe { whole.add(STEP) } }
     }
 
     fn bytes(&mut self, from: usize, len: usize) -> &mut [u8] {
@@ -60,7 +65,7 @@ impl Memory {
 
 impl Drop for Memory {
     fn drop(&mut self) {
-        unsafe { std::alloc::dealloc(self.start, Layout::from_size_align(ARENA + STEP, STEP).unwrap()) }
+        unsafe { std::alloc::dealloc(self.start.sub(STEP), Memory::layout()) }
     }
 }
 
@@ -80,6 +85,7 @@ struct Counts {
     layouts: u64,
     frees: u64,
     extends: u64,
+    past: u64,
     lists: u64,
     holes: u64,
     most: u64,
@@ -244,6 +250,7 @@ impl<'a> Pair<'a> {
         counts.calls += 1;
         if self.given + by > self.len {
             same("past the arena", Err(Refused { number: 9, count: 0 }), self.ours.extend(by as u64));
+            counts.past += 1;
             return;
         }
         self.given += by;
@@ -404,7 +411,7 @@ fn exhaustive(most: usize) -> Counts {
     counts
 }
 
-/// Calls as wire frames, and the original's answers as wire lines. Addresses are told from a nominal base, a multiple of 2^20.
+/// Calls as wire frames, and the original's answers as wire lines, marked by '='. Addresses are told from a nominal base, a multiple of 2^20.
 fn sample(seed: u64, lines: u64) {
     let mut rng = Rng(seed | 1);
     let mut memory = Memory::new();
@@ -416,7 +423,7 @@ fn sample(seed: u64, lines: u64) {
     println!("01{nominal:016x}{given:016x}");
     unsafe { heap.init(memory.start.add(5), given) };
     let tell = |a: u64| a - real + nominal;
-    eprintln!("00{:016x}{:016x}", tell(heap.bottom() as u64), heap.size());
+    println!("=00{:016x}{:016x}", tell(heap.bottom() as u64), heap.size());
     let mut held: Vec<(u64, u64, u64)> = Vec::new();
     let list = |heap: &Heap| {
         let mut holes = Vec::new();
@@ -429,31 +436,31 @@ fn sample(seed: u64, lines: u64) {
                 let by = rng.below(60) as usize;
                 println!("04{by:016x}");
                 if given + by > ARENA {
-                    eprintln!("09{:016x}{:016x}", 0, 0);
+                    println!("=09{:016x}{:016x}", 0, 0);
                 } else {
                     given += by;
                     unsafe { heap.extend(by) };
-                    eprintln!("00{:016x}{:016x}", heap.size(), heap.read_pending());
+                    println!("=00{:016x}{:016x}", heap.size(), heap.read_pending());
                 }
             }
             1 => {
                 println!("05");
                 let holes = list(&heap);
-                eprintln!("00{:016x}{:016x}", holes.len(), heap.free());
+                println!("=00{:016x}{:016x}", holes.len(), heap.free());
                 for (a, s) in holes {
-                    eprintln!("20{:016x}{:016x}", tell(a), s);
+                    println!("=20{:016x}{:016x}", tell(a), s);
                 }
             }
             2 => {
                 println!("06");
                 let holes = list(&heap);
-                eprintln!("00{:016x}{:016x}", holes.iter().map(|h| h.1).max().unwrap_or(0), holes.len());
+                println!("=00{:016x}{:016x}", holes.iter().map(|h| h.1).max().unwrap_or(0), holes.len());
             }
             n if n < 18 && !held.is_empty() => {
                 let (a, s, g) = held.swap_remove(rng.below(held.len() as u64) as usize);
                 println!("03{:016x}{s:016x}{g:016x}", tell(a));
                 unsafe { heap.deallocate(NonNull::new(a as *mut u8).unwrap(), Layout::from_size_align(s as usize, g as usize).unwrap()) };
-                eprintln!("00{:016x}{:016x}", (s.max(16) + 7) / 8 * 8, heap.used());
+                println!("=00{:016x}{:016x}", (s.max(16) + 7) / 8 * 8, heap.used());
             }
             _ => {
                 let size = if rng.one_in(30) { rng.below(70_000) } else { rng.below(400) };
@@ -464,10 +471,10 @@ fn sample(seed: u64, lines: u64) {
                     Ok(p) => {
                         let a = p.as_ptr() as u64;
                         let place = before.iter().position(|h| h.0 <= a && a < h.0 + h.1).unwrap() + 1;
-                        eprintln!("00{:016x}{:016x}", tell(a), place);
+                        println!("=00{:016x}{:016x}", tell(a), place);
                         held.push((a, size, align));
                     }
-                    Err(()) => eprintln!("07{:016x}{:016x}", 0, before.len()),
+                    Err(()) => println!("=07{:016x}{:016x}", 0, before.len()),
                 }
             }
         }
@@ -641,7 +648,18 @@ fn main() {
         _ => panic!("usage: against run SEED CALLS | tilings UNITS | sample SEED LINES | bench CALLS | trace NAME WHO CALLS"),
     };
     println!(
-        "agree: {} calls in {} runs ({} grants, {} without room, {} bad layouts, {} frees, {} extensions); {} lists with {} holes, at most {}; {} held bytes",
-        counts.calls, counts.runs, counts.grants, counts.no_room, counts.layouts, counts.frees, counts.extends, counts.lists, counts.holes, counts.most, counts.bytes
+        "agree: {} calls in {} runs ({} grants, {} without room, {} bad layouts, {} frees, {} extensions, {} past the arena); {} lists with {} holes, at most {}; {} held bytes",
+        counts.calls,
+        counts.runs,
+        counts.grants,
+        counts.no_room,
+        counts.layouts,
+        counts.frees,
+        counts.extends,
+        counts.past,
+        counts.lists,
+        counts.holes,
+        counts.most,
+        counts.bytes
     );
 }

@@ -15,6 +15,7 @@ use Rattle.rules.proofs.RunLaws.{follows-from-calls, side-by-side, neve
 use Rattle.rules.proofs.HeldRuns.{held-tile, held-is-freed, held-untouched}
 use Rattle.rules.proofs.LeftOut.{harmless}
 use Rattle.rules.proofs.Weighed.{weighed}
+use Rattle.rules.proofs.Premises.{met}
 
 pub demands : Demands
 demands =
@@ -45,4 +46,5 @@ demands =
       nothingLoose = nothing-loose;
       harmless = harmless;
       weighed = weighed;
+      met = met;
     }

@@ -58,5 +58,8 @@ pub mod Cover
 pub mod Tiling
 pub mod HeldKept
 pub mod HeldRuns
+-- the premises can be met
+pub mod Played
+pub mod Premises
 -- all of the demands
 pub mod Demands

@@ -1,10 +1,10 @@
 -- The demands, each as a statement under the user's sentence. Their proofs are held to these types in proofs/Demands.antt, whose one
 -- value of `Demands` the gate checks.
 use mathlib.Core.Path.{_≡_}
-use mathlib.Core.Bool.{Bool, true, cond}
+use mathlib.Core.Bool.{true, cond}
 use mathlib.Core.List.{List, [], _∷_, _++_, List·Memᴰ}
 use mathlib.Core.Logic.{_⊎_}
-use Prim.Native.Nat.{ℕ, _+_, _-_, _/_, _%_, _^_, _≤_, _<_, min}
+use Prim.Native.Nat.{ℕ, _+_, _-_, _/_, _^_, _≤_, _<_, min}
 use lib.Dec.{eqb}
 use lib.ListN.{length, getD}
 use Rattle.rules.specs.declared.Addr.{Addr}
@@ -15,17 +15,19 @@ use Rattle.rules.specs.declared.Refusal.{Refusal}
 use Rattle.rules.specs.declared.Refusal.the-variants.{BadOpening, Opened, Unopened, OtherLength, NotSound, BadLayout, NoRoom, BadSpan, PastArena}
 use Rattle.rules.specs.declared.Answer.{Answer}
 use Rattle.rules.specs.declared.Answer.the-variants.{Opening, Allocated, Freed, Extended, Listed, Room, Refused}
-use Rattle.rules.specs.Round.{Power, Below, Above}
+use Rattle.rules.specs.Round.{Below}
 use Rattle.rules.specs.Kinds.{addr, place}
 use Rattle.rules.specs.Holes.{hole}
 use Rattle.rules.specs.Sound.{unopened, sound, holes}
 use Rattle.rules.specs.Calls.{Call, opening, allocate, free, extend, list, room, Outcome, refused, told, done}
-use Rattle.rules.specs.Answers.{Numbers, numbers, answerNumbers}
+use Rattle.rules.specs.Answers.{numbers, answerNumbers}
 use Rattle.rules.specs.Outcome.{outcome, After, after, Is, Rows, rowsAfter}
-use Rattle.rules.specs.InWords.{Gap, endOf, SoundNumbers, SoundHoles, Sound, Rounds, Lies, RoomAt, Within, Vacant, Left, NoStart, NoLayout, NoSpan}
-use Rattle.rules.specs.Runs.{Fits, Reader, reading, Ask, calls, reads, AllFit, Told, Kept, Run, Block, Box, start, comesTo, nextBox, tells, ends, Honest}
+pub use Rattle.rules.specs.InWords.{Good, Valid}
+use Rattle.rules.specs.InWords.{endOf, SoundNumbers, Sound, Rounds, Lies, RoomAt, Within, Vacant, Left, NoStart, NoLayout, NoSpan}
+use Rattle.rules.specs.Runs.{Fits, Reader, reading, Ask, calls, AllFit, Told, Kept, Run, Block, Box, start, comesTo, tells, ends, Honest}
 use Rattle.rules.specs.LeftOut.{Harmless}
 use Rattle.rules.specs.Weighed.{Weighed}
+use Rattle.rules.specs.Premises.{Met}
 
 -- ---- "A heap is sound if": the test that the calls make is the paper's rule
 
@@ -137,17 +139,6 @@ pub record Granted (r align : ℕ) (h : Heap) (ks : List Hole) (o : Outcome) : T
   pub few : length front + 1 ≤ (h .top .0 - h .bottom .0 + 16) / 32
   pub split : new ≡ front ++ (piece (used .addr .0) at ++ (piece (at + r) (endOf used) ++ back))
   pub becomes : Becomes h new (h .top .0) (h .pending) (h .used + r) heap
-
--- an opened, sound heap with its arena
-abbrev pub Good : Heap → List ℕ → Type 0
-Good h m = (length m ≡ h .len) × Sound h (holes h m)
-
--- a valid layout with its rounded size
-pub record Valid (s align r : ℕ) : Type 0 where
-  pub fits : align < 2 ^ 64
-  pub power : Power align
-  pub rounds : Rounds s r
-  pub room : r + align ≤ 2 ^ 63
 
 abbrev pub Demand2 : Type 0
 Demand2 =
@@ -373,3 +364,4 @@ pub record Demands : Type 0 where
   pub nothingLoose : NothingLoose
   pub harmless : Harmless
   pub weighed : Weighed
+  pub met : Met

@@ -3,9 +3,11 @@ use mathlib.Core.Path.{_≡_}
 use mathlib.Core.List.{List, [], _∷_, _++_, List·Memᴰ}
 use mathlib.Core.Logic.{_⊎_}
 use Prim.Native.Nat.{ℕ, _+_, _-_, _%_, _^_, _≤_, _<_}
+use lib.ListN.{length}
 use Rattle.rules.specs.declared.Hole.{Hole}
 use Rattle.rules.specs.declared.Heap.{Heap}
 use Rattle.rules.specs.Round.{Power, Below, Above}
+use Rattle.rules.specs.Sound.{holes}
 
 -- no bytes, or at least 16, from lo to hi
 abbrev pub Gap : ℕ → ℕ → Type 0
@@ -48,6 +50,10 @@ pub record SoundHoles (h : Heap) (ks : List Hole) : Type 0 where
 abbrev pub Sound : Heap → List Hole → Type 0
 Sound h ks = SoundNumbers h × SoundHoles h ks
 
+-- a sound heap with its arena
+abbrev pub Good : Heap → List ℕ → Type 0
+Good h m = (length m ≡ h .len) × Sound h (holes h m)
+
 -- ---- what a request takes
 
 -- r is the larger of size and 16, rounded up to 8
@@ -56,6 +62,13 @@ pub record Rounds (size r : ℕ) : Type 0 where
   pub covers : size ≤ r
   pub sixteen : 16 ≤ r
   pub least : (y : ℕ) → y % 8 ≡ 0 → size ≤ y → 16 ≤ y → r ≤ y
+
+-- a valid layout with its rounded size
+pub record Valid (size align r : ℕ) : Type 0 where
+  pub fits : align < 2 ^ 64
+  pub power : Power align
+  pub rounds : Rounds size r
+  pub room : r + align ≤ 2 ^ 63
 
 -- x is an address for r bytes in the hole k: a multiple of the alignment, with 0 or at least 16 bytes left on each side
 pub record Lies (r align : ℕ) (k : Hole) (x : ℕ) : Type 0 where

@@ -25,4 +25,6 @@ pub mod LeftOut
 -- the demands: the paper's words as statements
 pub mod InWords
 pub mod Runs
+-- that their premises can be met
+pub mod Premises
 pub mod Demands

@@ -22,7 +22,8 @@ returns c =
     let a = c .before .before .before .before .before in
     let l = a .before .before in
     let s = l .before .before .before in
-    shown (allocate (s .args .size) (s .args .align)) (s .args .heap .now) (s .args .arena .now) (l .load .ensures) (a .allocate .result) (a .allocate .ensures) (c .show .ensures)
+    shown (allocate (s .args .size) (s .args .align))
+    (s .args .heap .now) (s .args .arena .now) (l .load .ensures) (a .allocate .result) (a .allocate .ensures) (c .show .ensures)
 
 pub lantern-allocate-spec : {M : Type 1} → statement M
 lantern-allocate-spec =

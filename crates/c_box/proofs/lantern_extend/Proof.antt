@@ -22,7 +22,8 @@ returns c =
     let a = c .before .before .before .before .before in
     let l = a .before .before in
     let s = l .before .before .before in
-    shown (extend (s .args .by)) (s .args .heap .now) (s .args .arena .now) (l .load .ensures) (a .extend .result) (a .extend .ensures) (c .show .ensures)
+    shown (extend (s .args .by))
+    (s .args .heap .now) (s .args .arena .now) (l .load .ensures) (a .extend .result) (a .extend .ensures) (c .show .ensures)
 
 pub lantern-extend-spec : {M : Type 1} → statement M
 lantern-extend-spec =

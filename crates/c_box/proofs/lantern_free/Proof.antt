@@ -23,7 +23,8 @@ returns c =
     let a = c .before .before .before .before .before in
     let l = a .before .before in
     let s = l .before .before .before in
-    shown (free (addr (s .args .at)) (s .args .size) (s .args .align)) (s .args .heap .now) (s .args .arena .now) (l .load .ensures) (a .free .result) (a .free .ensures) (c .show .ensures)
+    shown (free (addr (s .args .at)) (s .args .size) (s .args .align))
+    (s .args .heap .now) (s .args .arena .now) (l .load .ensures) (a .free .result) (a .free .ensures) (c .show .ensures)
 
 pub lantern-free-spec : {M : Type 1} → statement M
 lantern-free-spec =

@@ -23,7 +23,8 @@ returns c =
     let a = c .before .before .before .before .before in
     let l = a .before .before in
     let s = l .before .before .before in
-    shown (opening (addr (s .args .base)) (s .args .named)) (s .args .heap .now) (s .args .arena .now) (l .load .ensures) (a .open .result) (a .open .ensures) (c .show .ensures)
+    shown (opening (addr (s .args .base)) (s .args .named))
+    (s .args .heap .now) (s .args .arena .now) (l .load .ensures) (a .open .result) (a .open .ensures) (c .show .ensures)
 
 pub lantern-open-spec : {M : Type 1} → statement M
 lantern-open-spec =

@@ -1,0 +1,22 @@
+-- What holds of the program's memory from line to line. Definitions only.
+use Prim.Native.Nat.{ℕ, _≤_}
+use mathlib.Core.Path.{_≡_}
+use Rattle.wire.specs.declared.Talk.{Talk}
+
+-- the bytes kept of a line; those of the longest answer; those for answers that wait, the longest twice
+abbrev pub lineRoom : ℕ
+lineRoom = 51
+
+abbrev pub longest : ℕ
+longest = 71715
+
+abbrev pub answersRoom : ℕ
+answersRoom = 143430
+
+-- behind the answers that wait there is room for the longest
+abbrev pub Bounded : Talk → Type 0
+Bounded t = (t .kept ≤ lineRoom) × (t .waits ≤ longest)
+
+-- between two reads no answer waits
+abbrev pub Settled : Talk → Type 0
+Settled t = (t .kept ≤ lineRoom) × (t .waits ≡ 0)

@@ -1,0 +1,255 @@
+#!/usr/bin/env python3
+"""A trial of the definitions of crate rules: one place is changed at a time, and the crate checked again.
+
+A mutant that is still proved either means the same as the definition, or shows a statement that is too weak.
+
+    tests/mutate.py                     about 60 mutants, spread over all definitions
+    tests/mutate.py --count 0           all of them
+    tests/mutate.py --seed 3 --list     only say which would be tried
+    tests/mutate.py --only gap,suits    those of some definitions
+
+Each line of the report is: verdict, file, definition, what was changed, and for a refused one the first error. `void` is a mutant
+that does not reach the prover's facts (a name that is not in scope, a type that does not fit); it shows nothing, and the next mutant of
+the same definition takes its place."""
+import argparse
+import os
+import random
+import re
+import shutil
+import subprocess
+import sys
+import tempfile
+
+FILES = "Fixed Tests Round Kinds Words Holes Sound Allocate Free Calls Readers Refusals Answers Outcome".split()
+
+# one name for another of the same type
+SWAPS = [
+    ("leb", "ltb"), ("notAfter", "before"), ("&&", "||"), ("true", "false"), ("+", "-"), ("all", "any"), ("max", "min"), ("minSize", "grain"),
+    ("arenaLimit", "addrLimit"), (".bottom", ".top"), (".base", ".bottom"), (".pending", ".used"), ("front", "back"),
+    ("downTo", "upTo"), ("/", "%"), ("≤", "<"),
+]
+# an order of tests is changed by exchanging what two of them give
+CONSTRUCTORS = {
+    "BadOpening", "Opened", "Unopened", "OtherLength", "NotSound", "BadLayout", "BadSpan", "PastArena", "Rounded", "Bad", "Opening", "Allocated",
+    "Freed", "Extended", "Listed", "Room",
+}
+# where a name that a mutant brings comes from
+HOMES = {
+    "leb": "lib.Dec", "ltb": "lib.Dec", "eqb": "lib.Dec", "true": "mathlib.Core.Bool", "false": "mathlib.Core.Bool",
+    "_&&_": "mathlib.Core.Bool", "_||_": "mathlib.Core.Bool", "max": "Prim.Native.Nat", "min": "Prim.Native.Nat", "_+_": "Prim.Native.Nat",
+    "_-_": "Prim.Native.Nat", "_/_": "Prim.Native.Nat", "_%_": "Prim.Native.Nat", "_<_": "Prim.Native.Nat", "_≤_": "Prim.Native.Nat",
+    "notAfter": "Rattle.rules.specs.Kinds", "before": "Rattle.rules.specs.Kinds", "all": "Rattle.rules.specs.Tests",
+    "any": "Rattle.rules.specs.Tests", "minSize": "Rattle.rules.specs.Fixed", "grain": "Rattle.rules.specs.Fixed",
+    "arenaLimit": "Rattle.rules.specs.Fixed", "addrLimit": "Rattle.rules.specs.Fixed", "upTo": "Rattle.rules.specs.Round",
+    "downTo": "Rattle.rules.specs.Round",
+}
+TOKEN = re.compile(r"--[^\n]*|[^\s(){};,]+|[(){};,]")
+
+
+class Mutant:
+    def __init__(self, file, name, start, end, old, new, what):
+        self.file, self.name, self.start, self.end, self.old, self.new, self.what = file, name, start, end, old, new, what
+
+    def text(self, source):
+        changed = source[: self.start] + self.new + source[self.end :]
+        for word in re.findall(r"[^\s(){};,]+", self.new):
+            changed = imported(changed, word)
+        return changed
+
+
+def imported(source, word):
+    """The source with the name imported, if it is one that a mutant brings."""
+    for name in (word, f"_{word}_"):
+        home = HOMES.get(name)
+        if home is None:
+            continue
+        lines = source.split("\n")
+        for line in lines:
+            if line.startswith("use ") and re.search(r"[{ ]" + re.escape(name) + r"[,}]", line):
+                return source
+        if re.search(r"^abbrev pub " + re.escape(name) + " ", source, re.M):
+            return source
+        first = next(i for i, line in enumerate(lines) if line.startswith("use "))
+        lines.insert(first, f"use {home}.{{{name}}}")
+        return "\n".join(lines)
+    return source
+
+
+def definitions(source):
+    """Name and stretches of text of each definition: what stands behind the = of its clauses, or the types of a record of statements."""
+    found, name, kind, at = {}, None, None, 0
+    for line in source.split("\n"):
+        end = at + len(line)
+        if head := re.match(r"(?:abbrev|unfoldable) pub (\S+) :", line):
+            name, kind = head.group(1), "clauses"
+        elif head := re.match(r"pub record (\S+) \(", line):
+            name, kind = head.group(1), "types"
+        elif re.match(r"pub (record|data) ", line):
+            kind = None
+        elif not line.strip() or line.startswith(("--", "use ")):
+            pass
+        elif kind == "clauses" and not line.startswith(" "):
+            sign = line.index(" =")
+            found.setdefault(name, []).append((at + sign + 2, end))
+        elif kind == "clauses":
+            found.setdefault(name, []).append((at, end))
+        elif kind == "types" and " : " in line:
+            found.setdefault(name, []).append((at + line.index(" : ") + 3, end))
+        at = end + 1
+    return found
+
+
+def joined(parts):
+    """The stretches of one clause as one, so that a list over several lines is seen whole."""
+    whole = []
+    for start, end in parts:
+        if whole and start - whole[-1][1] == 1:
+            whole[-1] = (whole[-1][0], end)
+        else:
+            whole.append((start, end))
+    return whole
+
+
+def atoms(text, at, count):
+    """The next arguments from a place on: words, with their fields, or what stands in parentheses."""
+    out = []
+    while len(out) < count:
+        while at < len(text) and text[at].isspace():
+            at += 1
+        if at >= len(text):
+            return None
+        start = at
+        if text[at] == "(":
+            depth = 0
+            while at < len(text):
+                depth += {"(": 1, ")": -1}.get(text[at], 0)
+                at += 1
+                if depth == 0:
+                    break
+        else:
+            while at < len(text) and not text[at].isspace() and text[at] not in "()":
+                at += 1
+        out.append((start, at))
+    return out
+
+
+def mutants(file, source):
+    for name, parts in definitions(source).items():
+        for start, end in joined(parts):
+            text = source[start:end]
+
+            def made(a, b, new, what):
+                return Mutant(file, name, start + a, start + b, text[a:b], new, what)
+
+            tokens = [t for t in TOKEN.finditer(text) if not t.group().startswith("--")]
+            for t in tokens:
+                word = t.group()
+                if word.isdigit():
+                    yield made(t.start(), t.end(), str(int(word) + 1), f"{word} to {int(word) + 1}")
+                for pair in SWAPS:
+                    for old, new in (pair, pair[::-1]):
+                        if word == old:
+                            yield made(t.start(), t.end(), new, f"{old} to {new}")
+                if word == "cond":
+                    args = atoms(text, t.end(), 3)
+                    if args:
+                        (b0, b1), (c0, c1) = args[1], args[2]
+                        yield made(b0, c1, text[c0:c1] + text[b1:c0] + text[b0:b1], "arms of cond exchanged")
+            named = [t for t in tokens if t.group() in CONSTRUCTORS]
+            for a, b in zip(named, named[1:]):
+                if a.group() != b.group():
+                    new = b.group() + text[a.end() : b.start()] + a.group()
+                    yield made(a.start(), b.end(), new, f"{a.group()} and {b.group()} exchanged")
+            yield from dropped(text, made)
+
+
+def dropped(text, made):
+    """One test of a list is left out: a stretch up to a ∷, at one depth of parentheses."""
+    opened, begin = [], 0
+    for i, char in enumerate(text):
+        if char == "(":
+            opened.append(begin)
+            begin = i + 1
+        elif char == ")":
+            begin = opened.pop()
+        elif char == "∷":
+            test = re.sub(r"--[^\n]*\n", "", text[begin:i]).strip()
+            if test and " " in test:
+                yield made(begin, i + 1, " ", f"{' '.join(test.split())} left out")
+            begin = i + 1
+
+
+def sample(found, count, seed):
+    """So many, in turn from every definition."""
+    chance = random.Random(seed)
+    by = {}
+    for m in found:
+        by.setdefault((m.file, m.name), []).append(m)
+    for ms in by.values():
+        chance.shuffle(ms)
+    keys = list(by)
+    chance.shuffle(keys)
+    turn = 0
+    queue = []
+    while any(len(by[k]) > turn for k in keys):
+        queue += [by[k][turn] for k in keys if len(by[k]) > turn]
+        turn += 1
+    return queue if count == 0 else queue[:count], queue[count:] if count else []
+
+
+def tried(repo, m, source):
+    with tempfile.TemporaryDirectory() as room:
+        crate = os.path.join(room, "rules")
+        os.mkdir(crate)
+        for part in ("src", "specs", "proofs"):
+            shutil.copytree(os.path.join(repo, "crates/rules", part), os.path.join(crate, part))
+        with open(os.path.join(crate, f"specs/{m.file}.antt"), "w") as out:
+            out.write(m.text(source))
+        run = subprocess.run(["rt", "check", crate], capture_output=True, text=True)
+        said = run.stdout + run.stderr
+        first = next((line for line in said.split("\n") if ": error" in line), "")
+        first = first.replace(crate + "/", "")[:240]
+        if run.returncode == 0 and "logic=proved" in said:
+            return "survived", ""
+        if "logic=not-proved" not in said:
+            return "untold", first
+        return ("void" if first.startswith(f"specs/{m.file}.antt") else "refused"), first
+
+
+def main():
+    here = os.path.dirname(os.path.dirname(os.path.abspath(__file__)))
+    words = argparse.ArgumentParser(description=__doc__, formatter_class=argparse.RawDescriptionHelpFormatter)
+    words.add_argument("--repo", default=here)
+    words.add_argument("--seed", type=int, default=1)
+    words.add_argument("--count", type=int, default=60)
+    words.add_argument("--only", default="")
+    words.add_argument("--list", action="store_true")
+    given = words.parse_args()
+    sources, found = {}, []
+    for file in FILES:
+        with open(os.path.join(given.repo, f"crates/rules/specs/{file}.antt")) as text:
+            sources[file] = text.read()
+        found += mutants(file, sources[file])
+    if given.only:
+        found = [m for m in found if m.name in given.only.split(",")]
+    queue, spare = sample(found, given.count, given.seed)
+    tally = {}
+    while queue:
+        m = queue.pop(0)
+        if given.list:
+            print(f"{m.file}.{m.name}: {m.what}")
+            continue
+        verdict, first = tried(given.repo, m, sources[m.file])
+        tally[verdict] = tally.get(verdict, 0) + 1
+        print(f"{verdict}\t{m.file}.{m.name}\t{m.what}\t{first}", flush=True)
+        if verdict == "void":
+            other = next((s for s in spare if s.name == m.name), None)
+            if other:
+                spare.remove(other)
+                queue.append(other)
+    print(" ".join(f"{k}={v}" for k, v in sorted(tally.items())) or f"{len(found)} mutants of {len({(m.file, m.name) for m in found})} definitions")
+    return 0
+
+
+if __name__ == "__main__":
+    sys.exit(main())

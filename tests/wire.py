@@ -1,0 +1,337 @@
+#!/usr/bin/env python3
+"""Runs the wire program on awkward inputs and compares its answers: tests/wire.py [PROGRAM].
+
+PROGRAM is target/bin/wire where none is given. The last line says how many cases agree; the exit
+status is 1 if one does not.
+"""
+import contextlib
+import os
+import random
+import re
+import resource
+import select
+import socket
+import subprocess
+import sys
+import tempfile
+import time
+
+HERE = os.path.dirname(os.path.dirname(os.path.abspath(__file__)))
+WIRE = os.path.abspath(sys.argv[1]) if len(sys.argv) > 1 else os.path.join(HERE, "target/bin/wire")
+LIMIT = 60.0  # seconds that a run may take
+FRAME = re.compile(rb"0[12][0-9a-f]{32}|03[0-9a-f]{48}|04[0-9a-f]{16}|05|06")
+
+
+def line(number, *values):
+    return ("%02x" % number + "".join("%016x" % v for v in values) + "\n").encode()
+
+
+BAD = line(0xFF, 0, 0)
+UNOPENED = line(3, 0, 0)
+OPEN = line(1, 0x1000, 0x10000)
+OPENED = line(0, 0x1000, 0x10000)
+
+
+def stored(name):
+    with open(os.path.join(HERE, "crates/wire", name), "rb") as f:
+        return f.read()
+
+
+def check(got, expected):
+    if got == expected:
+        return
+    a, b = got.split(b"\n"), expected.split(b"\n")
+    at = next((i for i, (x, y) in enumerate(zip(a, b)) if x != y), min(len(a), len(b)))
+    show = lambda lines: lines[at][:60] if at < len(lines) else "no line"
+    raise AssertionError(f"line {at + 1} is {show(a)}, not {show(b)}")
+
+
+def run(data, **options):
+    """What the program prints on data, which it reads from a file."""
+    with tempfile.TemporaryFile() as f:
+        f.write(data)
+        f.seek(0)
+        done = subprocess.run([WIRE], stdin=f, stdout=subprocess.PIPE, timeout=LIMIT, **options)
+    assert done.returncode == 0, f"exit status {done.returncode}"
+    return done.stdout
+
+
+def pieces(parts):
+    """What it prints if each read gives one of the parts."""
+    ours, its = socket.socketpair(socket.AF_UNIX, socket.SOCK_SEQPACKET)
+    with tempfile.TemporaryFile() as out:
+        with started(stdin=its, stdout=out) as p:
+            its.close()
+            for part in parts:
+                ours.send(part)
+            ours.close()
+            assert p.wait(LIMIT) == 0, f"exit status {p.returncode}"
+        out.seek(0)
+        return out.read()
+
+
+def cut(data, size):
+    return [data[i : i + size] for i in range(0, len(data), size)]
+
+
+def heard(pipe, length, wait=LIMIT):
+    """The next bytes of a pipe, fewer than length if it ends or no more come in time."""
+    got = b""
+    while len(got) < length and select.select([pipe], [], [], wait)[0]:
+        more = os.read(pipe.fileno(), length - len(got))
+        if not more:
+            break
+        got += more
+    return got
+
+
+@contextlib.contextmanager
+def started(**options):
+    p = subprocess.Popen([WIRE], bufsize=0, **options)
+    try:
+        yield p
+    finally:
+        p.kill()
+        p.wait()
+
+
+PIPE = subprocess.PIPE
+
+# ---- lines: input, answers
+
+ALLOCATE = line(2, 24, 8)
+FREE = line(3, 0x1000, 24, 8)
+STATE = OPEN + ALLOCATE
+STATED = OPENED + line(0, 0x1000, 1)
+LIST = line(0, 1, 0x10000 - 24) + line(0x20, 0x1018, 0x10000 - 24)
+
+LINES = {
+    "no input": (b"", b""),
+    "a lone LF": (b"\n", BAD),
+    "three LFs": (b"\n\n\n", BAD * 3),
+    "the paper's example": (stored("stdin"), stored("stdout")),
+    "a last line without LF": (stored("stdin")[:-1], stored("stdout")),
+    "one line without LF": (b"05", UNOPENED),
+    "a last line without LF that is no frame": (b"05\n0", UNOPENED + BAD),
+    "CR LF": (b"05\r\n06\r\n\r\n", BAD * 3),
+    "CR alone": (b"05\r06", BAD),
+    "spaces": (b" 05\n05 \n0 5\n05\t\n", BAD * 4),
+    "uppercase": (STATE + FREE.replace(b"1000", b"100A").upper() + b"0A\n05\n", STATED + BAD * 2 + LIST),
+    "odd digits": (b"0\n5\n050\n" + OPEN[:-2] + b"\n", BAD * 4),
+    "half frames": (b"".join(OPEN[:n] + b"\n" for n in range(34)), BAD * 34),
+    "a digit too many": (b"".join(f[:-1] + b"0\n" for f in (OPEN, ALLOCATE, FREE, line(4, 0), b"05\n", b"06\n")), BAD * 6),
+    "unknown calls": (b"".join(b"%02x\n" % n for n in range(256) if n not in (5, 6)), BAD * 254),
+    "NUL": (b"\0\n05\0\n\0" + b"05\n" + b"0\0005\n", BAD * 4),
+    "bytes above 127": (b"\xef\xbb\xbf05\n\xff\n", BAD * 2),
+    "lines around the longest frame": (b"".join(FREE[:50] + b"0" * n + b"\n" for n in range(4)), UNOPENED + BAD * 3),
+    "a frame and 5 MB behind it": (STATE + b"05" + b"0" * 5_000_000 + b"\n05\n", STATED + BAD + LIST),
+    "5 MB without LF": (b"05\n" + b"x" * 5_000_000, UNOPENED + BAD),
+    "what is no frame does nothing": (STATE + b"\n05 \n" + FREE[:-1] + b"\r\n05\n", STATED + BAD * 3 + LIST),
+}
+
+
+def all_at_once(data, answers):
+    check(run(data), answers)
+
+
+def in_pieces(data, answers):
+    for size in (1, 2, 33, 50, 51, 52, 4096):
+        if len(data) <= 4096 * size:
+            check(pieces(cut(data, size)), answers)
+
+
+# ---- talks, ends and sizes
+
+
+def noise():
+    data = random.Random(1).randbytes(1_000_000)
+    lines = data.split(b"\n")
+    assert lines[-1] and not any(FRAME.fullmatch(x) for x in lines)
+    check(run(STATE + data + b"\n05\n"), STATED + BAD * len(lines) + LIST)
+
+
+def blocks():
+    """Lines whose LF is the last byte of a block of 65,536, the first of the next, and near those."""
+    for pad in range(65_533, 65_539):
+        check(run(STATE + b"y" * (pad - len(STATE)) + b"\n05\n"), STATED + BAD + LIST)
+
+
+def most_holes():
+    """Calls that make 2,048 holes, their answers, and the list."""
+    calls, answers = OPEN, OPENED
+    for i in range(4096):
+        calls += line(2, 16, 8)
+        answers += line(0, 0x1000 + 16 * i, 1)
+    for i in range(0, 4096, 2):
+        calls += line(3, 0x1000 + 16 * i, 16, 8)
+        answers += line(0, 16, 0x10000 - 8 * (i + 2))
+    rows = line(0, 2048, 0x8000) + b"".join(line(0x20, 0x1000 + 16 * i, 16) for i in range(0, 4096, 2))
+    assert len(rows) == 71_715
+    return calls, answers, rows
+
+
+def longest():
+    """The longest answer so often that it fills the room for answers many times over."""
+    calls, answers, rows = most_holes()
+    for mixed in (b"05\n", b"06\n05\n", b"\n" * 2048 + b"05\n"):
+        before = b"".join(line(0, 16, 2048) if x == b"06" else BAD for x in mixed.split(b"\n")[:-2])
+        check(run(calls + mixed * 20), answers + (before + rows) * 20)
+
+
+def memory():
+    """A line of 64 MB in 32 MB of memory."""
+    limit = lambda: resource.setrlimit(resource.RLIMIT_AS, (1 << 25, 1 << 25))
+    check(run(b"05\n" + b"0" * (1 << 26) + b"\n05\n", preexec_fn=limit), UNOPENED + BAD + UNOPENED)
+
+
+def million(calls, answers):
+    """A million lines from a file: how long, and how many calls of the system."""
+    with tempfile.TemporaryFile() as data, tempfile.TemporaryFile() as out:
+        data.write(calls)
+        data.seek(0)
+        begin = time.monotonic()
+        p = subprocess.Popen([WIRE], stdin=data, stdout=out)
+        os.waitid(os.P_PID, p.pid, os.WEXITED | os.WNOWAIT)
+        took = time.monotonic() - begin
+        with open(f"/proc/{p.pid}/io") as f:
+            counts = dict(row.split(": ") for row in f.read().split("\n") if row)
+        assert p.wait() == 0, f"exit status {p.returncode}"
+        out.seek(0)
+        check(out.read(), answers)
+    reads, writes = int(counts["syscr"]), int(counts["syscw"])
+    assert reads <= len(calls) / 65_536 + 20, f"{reads} reads"
+    assert writes <= len(answers) / 65_536 + len(calls) / 65_536 + 20, f"{writes} writes"
+    return f"{took:.2f} s, {reads} reads, {writes} writes"
+
+
+def million_lists():
+    return million(b"05\n" * 1_000_000, UNOPENED * 1_000_000)
+
+
+def million_calls():
+    pair, answered = ALLOCATE + FREE, line(0, 0x1000, 1) + line(0, 24, 0)
+    return million(OPEN + pair * 500_000, OPENED + answered * 500_000)
+
+
+def line_by_line():
+    """Each answer comes while the program waits for the next line."""
+    with started(stdin=PIPE, stdout=PIPE) as p:
+        for call, said in zip(stored("stdin").split(b"\n"), stored("stdout").split(b"\n")[:7]):
+            p.stdin.write(call + b"\n")
+            check(heard(p.stdout, 35), said + b"\n")
+        check(heard(p.stdout, 70), stored("stdout")[-70:])
+        for _ in range(2000):
+            p.stdin.write(b"06\n")
+            check(heard(p.stdout, 35), line(0, 0x20, 2))
+        p.stdin.write(b"06\n\n0")
+        check(heard(p.stdout, 1000, 0.3), line(0, 0x20, 2) + BAD)
+        p.stdin.write(b"6")
+        p.stdin.close()
+        check(heard(p.stdout, 1000), line(0, 0x20, 2))
+        assert p.wait(LIMIT) == 0
+
+
+def closed_output(**options):
+    """Nobody reads any more: the first answer has come, and the program ends, its input still open."""
+    with started(stdin=PIPE, stdout=PIPE, **options) as p:
+        p.stdin.write(b"05\n")
+        check(heard(p.stdout, 35), UNOPENED)
+        p.stdout.close()
+        p.stdin.write(b"05\n")
+        return p.wait(LIMIT)
+
+
+def closed_by_signal():
+    assert closed_output() == -13
+
+
+def closed_by_answer():
+    """The same where the signal is ignored, so that the write fails."""
+    assert closed_output(restore_signals=False) == 0
+
+
+def head():
+    out = subprocess.run(f"yes 05 | '{WIRE}' | head -1", shell=True, stdout=PIPE, timeout=LIMIT).stdout
+    check(out, UNOPENED)
+
+
+def full_output():
+    with open("/dev/full", "wb") as full, started(stdin=PIPE, stdout=full) as p:
+        p.stdin.write(b"05\n")
+        assert p.wait(LIMIT) == 0
+
+
+def full_now_and_then():
+    """An output that takes no more at times: what came before is not lost, and nothing is left out."""
+    calls, answers, rows = most_holes()
+    with contextlib.ExitStack() as open_files:
+        r, w = (open_files.enter_context(open(end, mode, 0)) for end, mode in zip(os.pipe(), ("rb", "wb")))
+        with started(stdin=PIPE, stdout=w) as p:
+            for part in cut(calls, 4096):
+                p.stdin.write(part)
+                check(heard(r, 0), b"")
+            check(heard(r, len(answers)), answers)
+            os.set_blocking(w.fileno(), False)
+            w.close()
+            p.stdin.write(b"05\n" * 1000)
+            got = b""
+            while more := heard(r, 1 << 16):
+                got += more
+                time.sleep(0.001)
+            check(got, (rows * 1000)[: len(got)])
+            assert len(got) >= 1 << 16
+            assert p.wait(LIMIT) == 0
+
+
+def no_input():
+    """A read that fails at once: of a folder, and of nothing."""
+    folder = os.open("/", os.O_RDONLY)
+    with started(stdin=folder, stdout=PIPE) as p:
+        check(heard(p.stdout, 1), b"")
+    os.close(folder)
+    check(subprocess.run(f"'{WIRE}' <&-", shell=True, stdout=PIPE, timeout=LIMIT).stdout, b"")
+
+
+def failed_read():
+    """A read that fails after a line and a half: the line's answer stands, and the half is none."""
+    with socket.create_server(("127.0.0.1", 0)) as server:
+        ours = socket.create_connection(server.getsockname())
+        its, _ = server.accept()
+    with started(stdin=its, stdout=PIPE) as p:
+        its.close()
+        ours.sendall(b"05\n05")
+        check(heard(p.stdout, 35), UNOPENED)
+        time.sleep(0.3)
+        ours.setsockopt(socket.SOL_SOCKET, socket.SO_LINGER, b"\1\0\0\0\0\0\0\0")
+        ours.close()
+        check(heard(p.stdout, 1000), b"")
+        assert p.wait(LIMIT) == 0
+
+
+OTHERS = (
+    noise, blocks, longest, memory, million_lists, million_calls, line_by_line,
+    closed_by_signal, closed_by_answer, head, full_output, full_now_and_then, no_input, failed_read,
+)  # fmt: skip
+
+
+def main():
+    cases = []
+    for name, case in LINES.items():
+        cases.append((name, lambda case=case: all_at_once(*case)))
+        cases.append((name + ", in pieces", lambda case=case: in_pieces(*case)))
+    cases += [(case.__name__.replace("_", " "), case) for case in OTHERS]
+    failed = 0
+    for name, case in cases:
+        try:
+            note = case()
+            if note:
+                print(f"wire: {name}: {note}")
+        except (AssertionError, OSError, subprocess.TimeoutExpired) as e:
+            failed += 1
+            print(f"wire: {name}: {e}")
+    print(f"wire: {len(cases) - failed} cases agree, {failed} do not")
+    return 1 if failed else 0
+
+
+if __name__ == "__main__":
+    sys.exit(main())
