@@ -1,4 +1,5 @@
 -- The demands hold: each proof at its statement. Assumes nothing.
+use mathlib.Core.Path.{refl}
 use Rattle.rules.specs.Demands.{Demands}
 use Rattle.rules.proofs.SoundWords.{sound-means}
 use Rattle.rules.proofs.Refused.{refusals-exactly}
@@ -21,6 +22,7 @@ pub demands : Demands
 demands =
     record {
       soundMeans = sound-means;
+      unopenedIs = record { base = refl; len = refl; bottom = refl; top = refl; first = refl; pending = refl; used = refl };
       refusalsExactly = refusals-exactly;
       refusalsKeep = refusals-keep;
       refusalNumbers = refusal-numbers;

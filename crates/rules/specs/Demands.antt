@@ -34,6 +34,16 @@ use Rattle.rules.specs.Premises.{Met}
 abbrev pub SoundMeans : Type 0
 SoundMeans = (h : Heap) (ks : List Hole) → (sound h ks ≡ true → Sound h ks) × (Sound h ks → sound h ks ≡ true)
 
+-- "Unopened: bottom is 0 and so is the rest."
+pub record UnopenedIs : Type 0 where
+  pub base : unopened .base .0 ≡ 0
+  pub len : unopened .len ≡ 0
+  pub bottom : unopened .bottom .0 ≡ 0
+  pub top : unopened .top .0 ≡ 0
+  pub first : unopened .first .0 ≡ 0
+  pub pending : unopened .pending ≡ 0
+  pub used : unopened .used ≡ 0
+
 -- ---- demand 1: "Whatever numbers and memory a call is lent, it ends with an answer. Every entry tests its own input. A refusal carries
 -- its number from the build rules and alters neither heap nor memory."
 
@@ -339,6 +349,7 @@ NothingLoose = (a : After) (d e : Done) (m w : List ℕ) → Is a d m → Is a e
 
 pub record Demands : Type 0 where
   pub soundMeans : SoundMeans
+  pub unopenedIs : UnopenedIs
   pub refusalsExactly : RefusalsExactly
   pub refusalsKeep : RefusalsKeep
   pub refusalNumbers : RefusalNumbers
