@@ -8,9 +8,9 @@ A mutant that is still proved either means the same as the definition, or shows 
     tests/mutate.py --seed 3 --list     only say which would be tried
     tests/mutate.py --only gap,suits    those of some definitions
 
-Each line of the report is: verdict, file, definition, what was changed, and for a refused one the first error. `void` is a mutant
-that does not reach the prover's facts (a name that is not in scope, a type that does not fit); it shows nothing, and the next mutant of
-the same definition takes its place."""
+Each line of the report is: verdict, place, definition, what was changed, and the first error. `refused`: a proof no longer holds. `void`: the
+changed definition itself has no meaning (a name out of scope, a type that does not fit), which shows nothing, so the next mutant of the same
+definition takes its place. `untold`: the prover ran out of steps. `survived`: everything is still proved."""
 import argparse
 import os
 import random
@@ -197,23 +197,33 @@ def sample(found, count, seed):
     return queue if count == 0 else queue[:count], queue[count:] if count else []
 
 
-def tried(repo, m, source):
+def copied(repo, crate):
+    os.mkdir(crate)
+    for part in ("src", "specs", "proofs"):
+        shutil.copytree(os.path.join(repo, "crates/rules", part), os.path.join(crate, part))
+
+
+def checked(crate, *words):
+    run = subprocess.run(["rt", "check", crate, *words], capture_output=True, text=True)
+    said = run.stdout + run.stderr
+    first = next((line for line in said.split("\n") if ": error" in line), "")
+    if run.returncode == 0 and "logic=proved" in said:
+        return "survived", ""
+    return ("refused" if "logic=not-proved" in said else "untold"), first.replace(crate + "/", "")[:240]
+
+
+def tried(repo, known, m, source):
+    """The verdict on a mutant. What does not depend on the change is taken from the check of the crate as it is; a survivor is checked whole."""
     with tempfile.TemporaryDirectory() as room:
-        crate = os.path.join(room, "rules")
-        os.mkdir(crate)
-        for part in ("src", "specs", "proofs"):
-            shutil.copytree(os.path.join(repo, "crates/rules", part), os.path.join(crate, part))
+        crate, own = os.path.join(room, "rules"), os.path.join(room, "known")
+        copied(repo, crate)
+        shutil.copytree(known, own)
         with open(os.path.join(crate, f"specs/{m.file}.antt"), "w") as out:
             out.write(m.text(source))
-        run = subprocess.run(["rt", "check", crate], capture_output=True, text=True)
-        said = run.stdout + run.stderr
-        first = next((line for line in said.split("\n") if ": error" in line), "")
-        first = first.replace(crate + "/", "")[:240]
-        if run.returncode == 0 and "logic=proved" in said:
-            return "survived", ""
-        if "logic=not-proved" not in said:
-            return "untold", first
-        return ("void" if first.startswith(f"specs/{m.file}.antt") else "refused"), first
+        verdict, first = checked(crate, "--incremental", own)
+        if verdict == "survived":
+            verdict, first = checked(crate)
+        return ("void" if first.startswith(f"specs/{m.file}.antt") else verdict), first
 
 
 def main():
@@ -222,6 +232,7 @@ def main():
     words.add_argument("--repo", default=here)
     words.add_argument("--seed", type=int, default=1)
     words.add_argument("--count", type=int, default=60)
+    words.add_argument("--skip", type=int, default=0)
     words.add_argument("--only", default="")
     words.add_argument("--list", action="store_true")
     given = words.parse_args()
@@ -233,21 +244,33 @@ def main():
     if given.only:
         found = [m for m in found if m.name in given.only.split(",")]
     queue, spare = sample(found, given.count, given.seed)
+    queue = queue[given.skip :]
+    if given.list:
+        for m in queue:
+            print(f"{m.file}.{m.name}: {m.what}")
+        print(f"{len(found)} mutants of {len({(m.file, m.name) for m in found})} definitions")
+        return 0
+    room = tempfile.TemporaryDirectory()
+    copied(given.repo, os.path.join(room.name, "rules"))
+    known = os.path.join(room.name, "known")
+    os.mkdir(known)
+    verdict, first = checked(os.path.join(room.name, "rules"), "--incremental", known)
+    if verdict != "survived":
+        print(f"the crate as it is: {verdict}: {first}")
+        return 2
     tally = {}
     while queue:
         m = queue.pop(0)
-        if given.list:
-            print(f"{m.file}.{m.name}: {m.what}")
-            continue
-        verdict, first = tried(given.repo, m, sources[m.file])
+        verdict, first = tried(given.repo, known, m, sources[m.file])
         tally[verdict] = tally.get(verdict, 0) + 1
-        print(f"{verdict}\t{m.file}.{m.name}\t{m.what}\t{first}", flush=True)
+        line = sources[m.file].count("\n", 0, m.start) + 1
+        print(f"{verdict}\t{m.file}.antt:{line}\t{m.name}\t{m.what}\t{first}", flush=True)
         if verdict == "void":
             other = next((s for s in spare if s.name == m.name), None)
             if other:
                 spare.remove(other)
                 queue.append(other)
-    print(" ".join(f"{k}={v}" for k, v in sorted(tally.items())) or f"{len(found)} mutants of {len({(m.file, m.name) for m in found})} definitions")
+    print(" ".join(f"{k}={v}" for k, v in sorted(tally.items())))
     return 0
 
 

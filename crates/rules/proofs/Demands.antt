@@ -1,7 +1,7 @@
 -- The demands hold: each proof at its statement. Assumes nothing.
-use mathlib.Core.Path.{refl}
 use Rattle.rules.specs.Demands.{Demands}
 use Rattle.rules.proofs.SoundWords.{sound-means}
+use Rattle.rules.proofs.HoldWords.{unopened-is, holes-mean, bytes-stay}
 use Rattle.rules.proofs.Refused.{refusals-exactly}
 use Rattle.rules.proofs.Unaltered.{refusals-keep, other-rows, tells-only, nothing-loose}
 use Rattle.rules.proofs.Numbered.{refusal-numbers, answer-numbers}
@@ -22,7 +22,8 @@ pub demands : Demands
 demands =
     record {
       soundMeans = sound-means;
-      unopenedIs = record { base = refl; len = refl; bottom = refl; top = refl; first = refl; pending = refl; used = refl };
+      unopenedIs = unopened-is;
+      holesMean = holes-mean;
       refusalsExactly = refusals-exactly;
       refusalsKeep = refusals-keep;
       refusalNumbers = refusal-numbers;
@@ -37,6 +38,7 @@ demands =
       otherRows = other-rows;
       readersDo = readers-do;
       memory = memory;
+      bytesStay = bytes-stay;
       tellsOnly = tells-only;
       soundKept = sound-kept;
       followsFromCalls = follows-from-calls;

@@ -27,8 +27,9 @@ pub mod Calls
 pub mod Weighed
 -- what the port leaves out
 pub mod LeftOut
--- the demands: soundness and the tests in the paper's words
+-- the demands: soundness, what the bytes hold and the tests in the paper's words
 pub mod SoundWords
+pub mod HoldWords
 pub mod TestWords
 -- demand 1: refusals; what stays; the numbers of answers
 pub mod Passes

@@ -23,7 +23,7 @@ use Rattle.rules.specs.Calls.{Call, opening, allocate, free, extend, lis
 use Rattle.rules.specs.Answers.{numbers, answerNumbers}
 use Rattle.rules.specs.Outcome.{outcome, After, after, Is, Rows, rowsAfter}
 pub use Rattle.rules.specs.InWords.{Good, Valid}
-use Rattle.rules.specs.InWords.{endOf, SoundNumbers, Sound, Rounds, Lies, RoomAt, Within, Vacant, Left, NoStart, NoLayout, NoSpan}
+use Rattle.rules.specs.InWords.{endOf, SoundNumbers, Sound, Hold, Rounds, Lies, RoomAt, Within, Vacant, Left, NoStart, NoLayout, NoSpan}
 use Rattle.rules.specs.Runs.{Fits, Reader, reading, Ask, calls, AllFit, Told, Kept, Run, Block, Box, start, comesTo, tells, ends, Honest}
 use Rattle.rules.specs.LeftOut.{Harmless}
 use Rattle.rules.specs.Weighed.{Weighed}
@@ -34,7 +34,8 @@ use Rattle.rules.specs.Premises.{Met}
 abbrev pub SoundMeans : Type 0
 SoundMeans = (h : Heap) (ks : List Hole) → (sound h ks ≡ true → Sound h ks) × (Sound h ks → sound h ks ≡ true)
 
--- "Unopened: bottom is 0 and so is the rest."
+-- ---- "Unopened: bottom is 0 and so is the rest."
+
 pub record UnopenedIs : Type 0 where
   pub base : unopened .base .0 ≡ 0
   pub len : unopened .len ≡ 0
@@ -43,6 +44,15 @@ pub record UnopenedIs : Type 0 where
   pub first : unopened .first .0 ≡ 0
   pub pending : unopened .pending ≡ 0
   pub used : unopened .used ≡ 0
+
+-- ---- "Its first 16 bytes are its head: size, then the place of the next head [..], each 8 bytes, low byte first; all ones in the second
+-- means none": sound holes are those of a heap exactly if its heads hold them
+
+abbrev pub HolesMean : Type 0
+HolesMean =
+    (h : Heap) (m : List ℕ)
+    → ((ks : List Hole) → Sound h ks → Hold (h .base .0) m (h .first .0) ks → holes h m ≡ ks)
+    × (Sound h (holes h m) → Hold (h .base .0) m (h .first .0) (holes h m))
 
 -- ---- demand 1: "Whatever numbers and memory a call is lent, it ends with an answer. Every entry tests its own input. A refusal carries
 -- its number from the build rules and alters neither heap nor memory."
@@ -261,6 +271,11 @@ Memory =
     → ((k : Hole) → List·Memᴰ k ks → Within (k .addr .0 - h′ .base .0) 16 i → ⊥)
     → getD (after c h m .arena) i 0 ≡ getD m i 0)
 
+-- what is written are bytes
+abbrev pub BytesStay : Type 0
+BytesStay =
+    (c : Call) (h : Heap) (m : List ℕ) → ((i : ℕ) → getD m i 0 < 256) → (i : ℕ) → getD (after c h m .arena) i 0 < 256
+
 -- a call that only tells changes nothing
 abbrev pub TellsOnly : Type 0
 TellsOnly =
@@ -350,6 +365,7 @@ NothingLoose = (a : After) (d e : Done) (m w : List ℕ) → Is a d m → Is a e
 pub record Demands : Type 0 where
   pub soundMeans : SoundMeans
   pub unopenedIs : UnopenedIs
+  pub holesMean : HolesMean
   pub refusalsExactly : RefusalsExactly
   pub refusalsKeep : RefusalsKeep
   pub refusalNumbers : RefusalNumbers
@@ -364,6 +380,7 @@ pub record Demands : Type 0 where
   pub otherRows : OtherRows
   pub readersDo : ReadersDo
   pub memory : Memory
+  pub bytesStay : BytesStay
   pub tellsOnly : TellsOnly
   pub soundKept : SoundKept
   pub followsFromCalls : FollowsFromCalls

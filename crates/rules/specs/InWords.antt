@@ -2,8 +2,8 @@
 use mathlib.Core.Path.{_≡_}
 use mathlib.Core.List.{List, [], _∷_, _++_, List·Memᴰ}
 use mathlib.Core.Logic.{_⊎_}
-use Prim.Native.Nat.{ℕ, _+_, _-_, _%_, _^_, _≤_, _<_}
-use lib.ListN.{length}
+use Prim.Native.Nat.{ℕ, _+_, _*_, _-_, _%_, _^_, _≤_, _<_}
+use lib.ListN.{length, getD}
 use Rattle.rules.specs.declared.Hole.{Hole}
 use Rattle.rules.specs.declared.Heap.{Heap}
 use Rattle.rules.specs.Round.{Power, Below, Above}
@@ -53,6 +53,29 @@ Sound h ks = SoundNumbers h × SoundHoles h ks
 -- a sound heap with its arena
 abbrev pub Good : Heap → List ℕ → Type 0
 Good h m = (length m ≡ h .len) × Sound h (holes h m)
+
+-- ---- what the bytes hold
+
+-- the number in the 8 bytes from index i on, low byte first
+abbrev pub number : List ℕ → ℕ → ℕ
+number m i =
+    getD m i 0
+    + 2 ^ 8 * getD m (i + 1) 0
+    + 2 ^ 16 * getD m (i + 2) 0
+    + 2 ^ 24 * getD m (i + 3) 0
+    + 2 ^ 32 * getD m (i + 4) 0
+    + 2 ^ 40 * getD m (i + 5) 0
+    + 2 ^ 48 * getD m (i + 6) 0
+    + 2 ^ 56 * getD m (i + 7) 0
+
+-- the heads from a place on hold these holes: size, then the place of the next head, all ones for none
+abbrev pub Hold : ℕ → List ℕ → ℕ → List Hole → Type 0
+Hold base m p [] = p ≡ 2 ^ 64 - 1
+Hold base m p (k ∷ ks) =
+    (p ≡ 2 ^ 64 - 1 → ⊥)
+    × (k .addr .0 ≡ base + p)
+    × (k .size ≡ number m p)
+    × Hold base m (number m (p + 8)) ks
 
 -- ---- what a request takes
 

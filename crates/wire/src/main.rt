@@ -158,8 +158,8 @@ fn turn(
     }
     let all: &[u8] = input;
     let n = io::count(got, all);
-    let next = hear(t, &all[0..n], arena, line, reply, waiting);
-    flush(next, waiting)
+    let answered = hear(t, &all[0..n], arena, line, reply, waiting);
+    flush(answered, waiting)
 }
 
 // A proved loop has to end, and nothing says that the input does: the turns are counted down from a

@@ -6,8 +6,6 @@ use lib.ListN.{length}
 use Rattle.wire.specs.Bounds.{Bounded}
 use Rattle.wire.proofs.hear.Statement.{statement}
 use Rattle.wire.proofs.hear.Tie as tie
-use Rattle.wire.proofs.hear.Reads as reads
-use Rattle.wire.proofs.hear.Lts as lts
 
 abbrev Inv-loop : tie.InvT-loop
 Inv-loop heard arena₀ line₀ reply₀ waiting₀ t₀ at₀ arena line reply waiting t at = (at ≤ length heard) × Bounded t

@@ -3,8 +3,6 @@ use borrow.Author.Needs.{needs}
 use Rattle.wire.specs.Bounds.{Settled}
 use Rattle.wire.proofs.main.Statement.{statement}
 use Rattle.wire.proofs.main.Tie as tie
-use Rattle.wire.proofs.main.Reads as reads
-use Rattle.wire.proofs.main.Lts as lts
 
 abbrev Inv-loop : tie.InvT-loop
 Inv-loop input₀ arena₀ line₀ reply₀ waiting₀ t₀ turns₀ input arena line reply waiting t turns = Settled t
