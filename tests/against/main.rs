@@ -497,9 +497,12 @@ fn class_size(class: u64) -> u64 {
 
 /// A trace: the sizes of slots and of the pins between them, in turn, and then the turns. The pins stay, so that about `holes` holes
 /// stay too; a slot's class rises along the list, so that a request's class says how far along its hole is. Mixed requests find it early,
-/// with sizes and alignments of all kinds; deep ones only far along.
+/// with sizes and alignments of all kinds; deep ones only far along. In a full trace no slot is large enough, and all are looked at.
 fn trace(name: &str, calls: usize, holes: usize) -> (Vec<u64>, Vec<Turn>) {
     let mut rng = Rng(0x1eaf);
+    if name == "full" {
+        return (vec![16; 2 * holes], vec![Turn::Take(24, 8); calls]);
+    }
     let first = (0..holes).flat_map(|i| [class_size((i * CLASSES / holes) as u64), 16]).collect();
     let mut turns = Vec::new();
     for n in 0..calls {
@@ -612,7 +615,7 @@ fn bench(calls: usize) {
     let mut memory = Memory::new();
     let mut space = vec![0u8; ARENA];
     println!("trace  holes  looked at per grant  original ns/call  ours ns/call  ratio (medians of 9, alternating)");
-    for (name, holes) in [("mixed", 500), ("deep", 500), ("mixed", 50), ("mixed", 1000)] {
+    for (name, holes) in [("mixed", 500), ("deep", 500), ("mixed", 50), ("mixed", 1000), ("full", 50), ("full", 500), ("full", 2048)] {
         let (first, turns) = trace(name, calls, holes);
         let (mut a, mut b, mut r) = (Vec::new(), Vec::new(), Vec::new());
         let (mut left, mut looked) = (0, 0.0);
