@@ -21,26 +21,29 @@ use Rattle.rules.proofs.Premises.{met}
 pub demands : Demands
 demands =
     record {
-      soundMeans = sound-means;
-      unopenedIs = unopened-is;
-      holesMean = holes-mean;
-      refusalsExactly = refusals-exactly;
-      refusalsKeep = refusals-keep;
-      refusalNumbers = refusal-numbers;
-      answerNumbers = answer-numbers;
-      demand2 = demand2;
-      openDoes = open-does;
-      freeDoes = free-does;
-      extendGathers = extend-gathers;
-      extendGrows = extend-grows;
-      roomDoes = room-does;
-      listDoes = list-does;
-      otherRows = other-rows;
-      readersDo = readers-do;
-      memory = memory;
-      bytesStay = bytes-stay;
-      tellsOnly = tells-only;
-      soundKept = sound-kept;
+      calls =
+          record {
+            soundMeans = sound-means;
+            unopenedIs = unopened-is;
+            holesMean = holes-mean;
+            refusalsExactly = refusals-exactly;
+            refusalsKeep = refusals-keep;
+            refusalNumbers = refusal-numbers;
+            answerNumbers = answer-numbers;
+            demand2 = demand2;
+            openDoes = open-does;
+            freeDoes = free-does;
+            extendGathers = extend-gathers;
+            extendGrows = extend-grows;
+            roomDoes = room-does;
+            listDoes = list-does;
+            otherRows = other-rows;
+            readersDo = readers-do;
+            memory = memory;
+            bytesStay = bytes-stay;
+            tellsOnly = tells-only;
+            soundKept = sound-kept;
+          };
       followsFromCalls = follows-from-calls;
       sideBySide = side-by-side;
       neverUnsound = never-unsound;

@@ -19,7 +19,8 @@ use Rattle.rules.specs.Allocate.{rounded}
 use Rattle.rules.specs.Free.{freed}
 use Rattle.rules.specs.Calls.{free, extend, renewed, given, grown, gathered, extended, accepted}
 use Rattle.rules.specs.Refusals.{unless, refusal8}
-use Rattle.rules.specs.Demands.{Good, Joined, FreeDoes, ExtendGathers, ExtendGrows}
+use Rattle.rules.specs.Behaviour.{ours, Good}
+use Rattle.rules.specs.Demands.{Joined, FreeDoes, ExtendGathers, ExtendGrows}
 use Rattle.rules.proofs.Cases.{cases}
 use Rattle.rules.proofs.Multiples.{below-is}
 use Rattle.rules.proofs.Powers.{power-pos, grain-power}
@@ -31,10 +32,10 @@ use Rattle.rules.proofs.Good.{good-outcome, valid-passes, renewed-becom
 use Rattle.rules.proofs.FreeKept.{renewed-fair, free-room, free-sound, grow-fair, grow-sound}
 use Rattle.rules.proofs.Vacancy.{freed-vacates}
 
-good-fair : (h : Heap) (m : List ℕ) → Good h m → Fair h
+good-fair : (h : Heap) (m : List ℕ) → Good ours h m → Fair h
 good-fair h m g = sound-fair h (words-numbers h (g .1 .0))
 
-good-holes : (h : Heap) (m : List ℕ) → Good h m → soundHoles h (holes h m) ≡ true
+good-holes : (h : Heap) (m : List ℕ) → Good ours h m → soundHoles h (holes h m) ≡ true
 good-holes h m g = words-holes h (holes h m) (g .1 .1)
 
 -- a sound heap with a span among its holes
@@ -55,7 +56,7 @@ freed-joined h ks g top pending used f e =
 
 -- ---- free
 
-pub free-does : FreeDoes
+pub free-does : FreeDoes ours
 unfolding unless accepted given
 free-does h m x s align r g v n =
     let ks = holes h m in
@@ -75,7 +76,7 @@ free-does h m x s align r g v n =
 
 -- ---- extend
 
-pub extend-gathers : ExtendGathers
+pub extend-gathers : ExtendGathers ours
 unfolding unless accepted extended gathered
 extend-gathers h m by g l small =
     let ks = holes h m in
@@ -87,7 +88,7 @@ extend-gathers h m by g l small =
           (sound-rises h f ks (good-holes h m g)),
     )
 
-pub extend-grows : ExtendGrows
+pub extend-grows : ExtendGrows ours
 unfolding unless accepted extended grown
 extend-grows h m by s g l large below =
     let ks = holes h m in

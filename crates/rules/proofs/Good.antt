@@ -19,7 +19,9 @@ use Rattle.rules.specs.Allocate.{rounded}
 use Rattle.rules.specs.Calls.{Call, accepted, renewed}
 use Rattle.rules.specs.Refusals.{refusal6, unless}
 use Rattle.rules.specs.Outcome.{outcome}
-use Rattle.rules.specs.Demands.{Good, Valid, Becomes}
+use Rattle.rules.specs.InWords.{Valid}
+use Rattle.rules.specs.Behaviour.{ours, Good}
+use Rattle.rules.specs.Demands.{Becomes}
 use Rattle.rules.proofs.Powers.{power-one}
 use Rattle.rules.proofs.Walk.{sound-fair, sound-count}
 use Rattle.rules.proofs.Rises.{Rises, sound-rises}
@@ -27,7 +29,7 @@ use Rattle.rules.proofs.Decide.{sifted, unless-fair, rest, Opens, decid
 use Rattle.rules.proofs.SoundWords.{rounds-rounded, words-numbers, words-holes}
 
 -- of its tests only those behind 5 are left
-pub good-outcome : (c : Call) (h : Heap) (m : List ℕ) → Opens c ≡ false → Good h m
+pub good-outcome : (c : Call) (h : Heap) (m : List ℕ) → Opens c ≡ false → Good ours h m
     → outcome c h m ≡ unless (rest c h (holes h m)) (accepted c (length m) h (holes h m))
 unfolding outcome sifted
 good-outcome c h m later g =
@@ -37,10 +39,10 @@ good-outcome c h m later g =
     ∙ unless-fair (length m) h ks (rest c h ks) (accepted c (length m) h ks) opened (g .0) (words-numbers h (g .1 .0))
     ∙ rw (words-holes h ks (g .1 .1))
 
-pub good-rises : (h : Heap) (m : List ℕ) → Good h m → Rises (h .bottom .0) (h .top .0) (holes h m)
+pub good-rises : (h : Heap) (m : List ℕ) → Good ours h m → Rises (h .bottom .0) (h .top .0) (holes h m)
 good-rises h m g = sound-rises h (sound-fair h (words-numbers h (g .1 .0))) (holes h m) (words-holes h (holes h m) (g .1 .1))
 
-pub good-count : (h : Heap) (m : List ℕ) → Good h m → length (holes h m) ≤ most h
+pub good-count : (h : Heap) (m : List ℕ) → Good ours h m → length (holes h m) ≤ most h
 good-count h m g = sound-count h (sound-fair h (words-numbers h (g .1 .0))) (holes h m) (words-holes h (holes h m) (g .1 .1))
 
 pub valid-passes : (s align r : ℕ) → Valid s align r → any (refusal6 s align) ≡ false

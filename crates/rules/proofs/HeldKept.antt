@@ -23,7 +23,7 @@ use Rattle.rules.specs.Calls.{Call, opening, allocate, free, extend, lis
 use Rattle.rules.specs.Refusals.{onePower, refusal6, tests}
 use Rattle.rules.specs.Outcome.{decided}
 use Rattle.rules.specs.Runs.{Fits, Ask, calls, reads, AllFit, Block, block, sameBlock, without, Box, start, heldAfter, comesTo, boxAfter, nextBox, ends, HonestCall, Honest}
-use Rattle.rules.specs.Demands.{Valid}
+use Rattle.rules.specs.InWords.{Valid}
 use Rattle.rules.proofs.Cases.{by-test, apart, all-each, each-all, any-each}
 use Rattle.rules.proofs.Layouts.{rounded-least}
 use Rattle.rules.proofs.Walk.{Fair}

@@ -17,6 +17,7 @@ use Rattle.rules.specs.Sound.{most, holes}
 use Rattle.rules.specs.Calls.{Outcome, refused, told, done}
 use Rattle.rules.specs.Outcome.{outcome, leaves, after}
 use Rattle.rules.specs.InWords.{number, Hold}
+use Rattle.rules.specs.Behaviour.{ours}
 use Rattle.rules.specs.Demands.{UnopenedIs, HolesMean, BytesStay}
 use Rattle.rules.proofs.Cases.{by-eq}
 use Rattle.rules.proofs.Words.{Bytes}
@@ -24,7 +25,7 @@ use Rattle.rules.proofs.Lists.{from-none, from-step, putHeads-bytes}
 use Rattle.rules.proofs.Walk.{Fair, sound-fair, sound-count}
 use Rattle.rules.proofs.SoundWords.{words-numbers, words-holes}
 
-pub unopened-is : UnopenedIs
+pub unopened-is : UnopenedIs ours
 unopened-is = record { base = refl; len = refl; bottom = refl; top = refl; first = refl; pending = refl; used = refl }
 
 -- ---- one head
@@ -71,7 +72,7 @@ holes-read : (h : Heap) (m : List ℕ) → Fair h → holes h m ≡ holesFrom (s
 unfolding holes
 holes-read h m f = rw (ne-eqb (h .bottom .0) 0 (omega (arith, f .base, f .bottom)))
 
-pub holes-mean : HolesMean
+pub holes-mean : HolesMean ours
 holes-mean h m = (
   λ ks s e.
       let f = sound-fair h (words-numbers h (s .0)) in
@@ -92,6 +93,6 @@ leaves-bytes h m (refused r) b = b
 leaves-bytes h m (told a ks) b = b
 leaves-bytes h m (done a h′ ks) b = putHeads-bytes (h′ .base) ks m b
 
-pub bytes-stay : BytesStay
+pub bytes-stay : BytesStay ours
 unfolding after
 bytes-stay c h m b = leaves-bytes h m (outcome c h m) b

@@ -13,7 +13,9 @@ use Rattle.rules.specs.Allocate.{rounded, candidate, found, find, remain
 use Rattle.rules.specs.Calls.{allocate, taken, accepted, renewed}
 use Rattle.rules.specs.Refusals.{unless}
 use Rattle.rules.specs.Outcome.{outcome}
-use Rattle.rules.specs.Demands.{Good, Valid, Granted, Demand2}
+use Rattle.rules.specs.InWords.{Valid}
+use Rattle.rules.specs.Behaviour.{ours, Good}
+use Rattle.rules.specs.Demands.{Granted, Demand2}
 use Rattle.rules.proofs.Powers.{power-pos}
 use Rattle.rules.proofs.Used.{find-splits, used-rises}
 use Rattle.rules.proofs.SoundWords.{rounds-rounded}
@@ -21,14 +23,14 @@ use Rattle.rules.proofs.Suits.{Placed, by-found, nothing-room, room-not
 use Rattle.rules.proofs.Good.{good-outcome, good-rises, good-count, valid-passes, renewed-becomes}
 
 -- the first suiting hole is used, or none is found
-pub allocate-outcome : (h : Heap) (m : List ℕ) (s align r : ℕ) → Good h m → Valid s align r
+pub allocate-outcome : (h : Heap) (m : List ℕ) (s align r : ℕ) → Good ours h m → Valid s align r
     → outcome (allocate s align) h m ≡ taken r align h (holes h m) (find r align (holes h m))
 unfolding unless accepted
 allocate-outcome h m s align r g v =
     let e : r ≡ rounded s = rounds-rounded (v .rounds) in
     good-outcome (allocate s align) h m refl g ∙ rw (valid-passes s align r v, e)
 
-module _ (h : Heap) (m : List ℕ) (s align r : ℕ) (g : Good h m) (v : Valid s align r) where
+module _ (h : Heap) (m : List ℕ) (s align r : ℕ) (g : Good ours h m) (v : Valid s align r) where
   placed : Placed (holes h m)
   placed k t = g .1 .1 .each k t .place
 
@@ -63,7 +65,7 @@ module _ (h : Heap) (m : List ℕ) (s align r : ℕ) (g : Good h m) (v : Valid s
             (rw (parts .0) at (good-rises h m g)));
       }
 
-pub demand2 : Demand2
+pub demand2 : Demand2 ours
 unfolding taken
 demand2 h m s align r g v = (
   λ room.

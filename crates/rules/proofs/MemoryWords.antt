@@ -15,6 +15,7 @@ use Rattle.rules.specs.Sound.{most, holes}
 use Rattle.rules.specs.Calls.{Call, done}
 use Rattle.rules.specs.Outcome.{outcome, leaves, after}
 use Rattle.rules.specs.InWords.{Within}
+use Rattle.rules.specs.Behaviour.{ours}
 use Rattle.rules.specs.Demands.{Memory}
 use Rattle.rules.proofs.Cases.{by-le}
 use Rattle.rules.proofs.Walk.{sound-count}
@@ -48,7 +49,7 @@ pub after-done : (c : Call) (h : Heap) (m : List ℕ) (a : Answer) (h′ : Heap)
 unfolding after leaves
 after-done c h m a h′ ks e = rw e
 
-pub memory : Memory
+pub memory : Memory ours
 memory c h m a h′ ks f e =
     let k = rw e at (outcome-keeps c h m f) in
     rw (after-done c h m a h′ ks e) (

@@ -1,9 +1,10 @@
 -- Each answer has the paper's number and values. Assumes nothing.
 use mathlib.Core.Path.{refl}
 use Rattle.rules.specs.Answers.{answerNumbers, refusalNumbers}
+use Rattle.rules.specs.Behaviour.{ours}
 use Rattle.rules.specs.Demands.{RefusalNumbers, AnswerNumbers}
 
-pub refusal-numbers : RefusalNumbers
+pub refusal-numbers : RefusalNumbers ours
 unfolding answerNumbers refusalNumbers
 refusal-numbers =
     record {
@@ -18,7 +19,7 @@ refusal-numbers =
       nine = refl;
     }
 
-pub answer-numbers : AnswerNumbers
+pub answer-numbers : AnswerNumbers ours
 unfolding answerNumbers
 answer-numbers =
     record {

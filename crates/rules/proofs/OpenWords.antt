@@ -17,13 +17,14 @@ use Rattle.rules.specs.Sound.{size, holeRules, lie, rise, leaveBefore, l
 use Rattle.rules.specs.Calls.{left, onlyHole, opened, accepted}
 use Rattle.rules.specs.Refusals.{refusal1, tests, unless}
 use Rattle.rules.specs.Outcome.{decided, outcome}
+use Rattle.rules.specs.Behaviour.{ours}
 use Rattle.rules.specs.Demands.{OpenDoes}
 use Rattle.rules.proofs.Cases.{cases, both, any-each, each-all}
 use Rattle.rules.proofs.Walk.{Fair}
 use Rattle.rules.proofs.SoundWords.{left-is, words-gap}
 use Rattle.rules.proofs.TestWords.{no-start}
 
-pub open-does : OpenDoes
+pub open-does : OpenDoes ours
 unfolding outcome decided tests unless accepted opened firstOf
 open-does h m base named bottom s e n l =
     let is = left-is l in

@@ -19,7 +19,8 @@ use Rattle.rules.specs.Calls.{allocate, refused, done, opened, taken, gi
 use Rattle.rules.specs.Readers.{readAddr}
 use Rattle.rules.specs.Refusals.{tests, unless}
 use Rattle.rules.specs.Outcome.{decided, outcome, leaves, after, over, inRows, leavesRows, rowsAfter}
-use Rattle.rules.specs.InWords.{Good, Valid}
+use Rattle.rules.specs.InWords.{Valid}
+use Rattle.rules.specs.Behaviour.{ours, Good}
 use Rattle.rules.specs.Runs.{reading, Ask, Honest, start, sameBlock, without, heldAfter, boxAfter, nextBox, ends}
 use Rattle.rules.specs.Premises.{lent, story, unlike, writes, Boxes, OnGood, Met}
 use Rattle.rules.proofs.Cases.{apart}
@@ -120,7 +121,7 @@ onGood =
     let m = putHeads (addr 0x1001) halves (noise 0xa0) in
     let eight = valid 24 8 3 refl (omega arith) (omega arith) in
     let large = valid 64 8 3 refl (omega arith) (omega arith) in
-    let good : Good half m = (refl, sound-words half (holes half m) refl) in
+    let good : Good ours half m = (refl, sound-words half (holes half m) refl) in
     record {
       heap = half;
       arena = m;

@@ -10,6 +10,7 @@ use Rattle.rules.specs.Sound.{size, soundNumbers}
 use Rattle.rules.specs.Readers.{unreadable, readAddr, readNumber}
 use Rattle.rules.specs.Runs.{reading}
 use Rattle.rules.specs.InWords.{SoundNumbers}
+use Rattle.rules.specs.Behaviour.{ours}
 use Rattle.rules.specs.Demands.{Reads, ReadersDo}
 use Rattle.rules.proofs.Cases.{cases, any-each}
 use Rattle.rules.proofs.SoundWords.{numbers-words, words-numbers}
@@ -26,15 +27,15 @@ module _ (h : Heap) where
       (numbers-words h (not-false (soundNumbers h) (r .1 .0)), ltb-false (size h) (h .used) (r .1 .1 .0))
 
   reads-numbers : any (unreadable h) ≡ false
-      → Reads h (h .bottom .0) (h .top .0 + h .pending) (size h) (h .used) (size h - h .used)
+      → Reads ours h (h .bottom .0) (h .top .0 + h .pending) (size h) (h .used) (size h - h .used)
   unfolding reading readAddr readNumber
   reads-numbers e = record { bottom = rw e; top = rw e; size = rw e; used = rw e; freeBytes = rw e }
 
-  reads-zeros : any (unreadable h) ≡ true → Reads h 0 0 0 0 0
+  reads-zeros : any (unreadable h) ≡ true → Reads ours h 0 0 0 0 0
   unfolding reading readAddr readNumber
   reads-zeros e = record { bottom = rw e; top = rw e; size = rw e; used = rw e; freeBytes = rw e }
 
-pub readers-do : ReadersDo
+pub readers-do : ReadersDo ours
 readers-do h = (
   λ p l. reads-numbers h (readable h p l),
   λ n. cases (any (unreadable h)) (reads-zeros h) (λ e. absurd (n (readable-words h e))),

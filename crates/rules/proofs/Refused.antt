@@ -22,6 +22,7 @@ use Rattle.rules.specs.Calls.{opening, allocate, free, extend, list, roo
 use Rattle.rules.specs.Refusals.{onePower, refusal6, refusal8, refusal9, Test, test, openedTests, tests, unless}
 use Rattle.rules.specs.Outcome.{decided, outcome}
 use Rattle.rules.specs.InWords.{Rounds, RoomAt, NoLayout, NoSpan}
+use Rattle.rules.specs.Behaviour.{ours}
 use Rattle.rules.specs.Demands.{Row, Decides, refusalsOf, RefusalsExactly}
 use Rattle.rules.proofs.Cases.{cases, by-test, or-left, any-each}
 use Rattle.rules.proofs.SoundWords.{rounded-rounds, rounds-rounded, sound-words, sound-means}
@@ -77,10 +78,10 @@ module _ (h : Heap) (m : List ℕ) where
   -- 3, 4 and 5, then the others on a sound heap
   opened-decides : (ts us : List Row) (qs : List Test) (o : Outcome) → Meets ts qs
       → (sound h (holes h m) ≡ true → Passed qs → Decides us o)
-      → Decides (refusalsOf list h m ++ (ts ++ us)) (unless (openedTests (length m) h (holes h m) ++ qs) o)
+      → Decides (refusalsOf ours list h m ++ (ts ++ us)) (unless (openedTests (length m) h (holes h m) ++ qs) o)
   unfolding unless
   opened-decides ts us qs o n f =
-      decides (refusalsOf list h m) (ts ++ us) (openedTests (length m) h (holes h m)) (unless qs o) (
+      decides (refusalsOf ours list h m) (ts ++ us) (openedTests (length m) h (holes h m)) (unless qs o) (
         refl,
         means-last (means-eq (h .bottom .0) 0),
         (
@@ -112,10 +113,10 @@ module _ (h : Heap) (m : List ℕ) where
     λ n. done-passes _ _ _,
   )
 
-pub refusals-exactly : RefusalsExactly
+pub refusals-exactly : RefusalsExactly ours
 unfolding outcome decided tests accepted given
 refusals-exactly (opening base named) h m f =
-    decides (refusalsOf (opening base named) h m) [] (tests (opening base named) (length m) h (holes h m)) _
+    decides (refusalsOf ours (opening base named) h m) [] (tests (opening base named) (length m) h (holes h m)) _
     (refl, means-last (means-not (means-eq (h .bottom .0) 0)), (refl, no-start (length m) base named, tt))
     (λ p. done-passes _ _ _)
 refusals-exactly (allocate s align) h m f =

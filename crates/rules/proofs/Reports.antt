@@ -12,6 +12,7 @@ use Rattle.rules.specs.Sound.{holes}
 use Rattle.rules.specs.Calls.{list, room, accepted}
 use Rattle.rules.specs.Refusals.{unless}
 use Rattle.rules.specs.Outcome.{over, inRows, leavesRows, rowsAfter}
+use Rattle.rules.specs.Behaviour.{ours}
 use Rattle.rules.specs.Demands.{Largest, RoomDoes, ListDoes}
 use Rattle.rules.proofs.Good.{good-outcome}
 use Rattle.rules.proofs.Cases.{by-le}
@@ -44,7 +45,7 @@ largest-is (k ∷ ks) =
       one = (λ e. let z : _≡_ {A = ℕ} 0 1 = cc in absurd (omega arith), λ n. largest-one k ks);
     }
 
-pub room-does : RoomDoes
+pub room-does : RoomDoes ours
 unfolding accepted unless
 room-does h m g = (largest (holes h m), largest-is (holes h m), good-outcome room h m refl g)
 
@@ -96,7 +97,7 @@ module _ (f : Hole → ℕ) where
     listed-out : (i : ℕ) → min n (length ks) ≤ i → getD listed i 0 ≡ getD row i 0
     listed-out i l = over-out (take n (map f ks)) row i (omega (arith, taken-length))
 
-pub list-does : ListDoes
+pub list-does : ListDoes ours
 unfolding accepted unless rowsAfter leavesRows inRows
 list-does h m r g =
     let e = good-outcome list h m refl g in

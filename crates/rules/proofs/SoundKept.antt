@@ -22,6 +22,7 @@ use Rattle.rules.specs.Calls.{Call, opening, allocate, free, extend, lis
 use Rattle.rules.specs.Refusals.{refusal4, refusal5, refusal8, onePower, tests}
 use Rattle.rules.specs.Outcome.{decided, outcome}
 use Rattle.rules.specs.Runs.{Fits}
+use Rattle.rules.specs.Behaviour.{ours}
 use Rattle.rules.specs.Demands.{SoundKept}
 use Rattle.rules.proofs.Cases.{by-test, and-left, and-right, or-left}
 use Rattle.rules.proofs.Powers.{one-power}
@@ -150,7 +151,7 @@ pub outcome-keeps : (c : Call) (h : Heap) (m : List ℕ) → Fits c → Keeps (l
 unfolding outcome
 outcome-keeps c h m f = decided-keeps c (length m) h (holes h m) f
 
-pub sound-kept : SoundKept
+pub sound-kept : SoundKept ours
 sound-kept c h m a h′ ks f e =
     let st = (rw e at (outcome-keeps c h m f)) .0 in
     ((numbers-words h′ (fair-sound h′ (st .fair)), holes-words h′ ks (st .sound)), sound-count h′ (st .fair) ks (st .sound))

@@ -19,6 +19,7 @@ use Rattle.rules.specs.Sound.{numberRules, soundNumbers, gap, holeRules,
 use Rattle.rules.specs.Allocate.{rounded}
 use Rattle.rules.specs.Calls.{left, onlyHole}
 use Rattle.rules.specs.InWords.{Gap, endOf, sum, SoundNumbers, SoundHole, SoundHoles, Sound, Rounds, Left}
+use Rattle.rules.specs.Behaviour.{ours}
 use Rattle.rules.specs.Demands.{SoundMeans}
 use Rattle.rules.proofs.Cases.{cases, and-left, and-right, both, last, all-each, each-all}
 use Rattle.rules.proofs.Multiples.{up-is, above-is, down-is, below-is}
@@ -212,5 +213,5 @@ pub words-sound : (h : Heap) (ks : List Hole) → Sound h ks → sound h ks ≡ 
 unfolding sound
 words-sound h ks p = both (words-numbers h (p .0)) (words-holes h ks (p .1))
 
-pub sound-means : SoundMeans
+pub sound-means : SoundMeans ours
 sound-means h ks = (sound-words h ks, words-sound h ks)

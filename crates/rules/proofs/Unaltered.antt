@@ -16,14 +16,15 @@ use Rattle.rules.specs.Allocate.{rounded, Found, nothing, found, find}
 use Rattle.rules.specs.Calls.{Call, opening, allocate, free, extend, list, room, Outcome, refused, taken, given, gathered, grown, extended, accepted}
 use Rattle.rules.specs.Refusals.{Test, tests, unless}
 use Rattle.rules.specs.Outcome.{decided, outcome, leaves, after, Rows, over, inRows, leavesRows, rowsAfter}
+use Rattle.rules.specs.Behaviour.{ours}
 use Rattle.rules.specs.Demands.{RefusalsKeep, TellsOnly, OtherRows, NothingLoose}
 use Rattle.rules.proofs.Cases.{by-test}
 
-pub refusals-keep : RefusalsKeep
+pub refusals-keep : RefusalsKeep ours
 unfolding after leaves rowsAfter leavesRows
 refusals-keep c h m rows r e = (rw e, rw e, rw e, rw e)
 
-pub tells-only : TellsOnly
+pub tells-only : TellsOnly ours
 unfolding after leaves
 tells-only c h m a ks e = (rw e, rw e, rw e)
 
@@ -72,7 +73,7 @@ module _ (r : Rows) where
       let k = min (length (r .addrs)) (length (r .sizes)) in
       rw (none-over k (r .addrs), none-over k (r .sizes))
 
-pub other-rows : OtherRows
+pub other-rows : OtherRows ours
 unfolding rowsAfter outcome decided
 other-rows c h m r n =
     unless-stays r (tests c (length m) h (holes h m)) (accepted c (length m) h (holes h m))

@@ -1,5 +1,5 @@
--- The demands, each as a statement under the user's sentence. Their proofs are held to these types in proofs/Demands.antt, whose one
--- value of `Demands` the gate checks.
+-- The demands, each as a statement under the user's sentence: of any behaviour b, where it speaks of one call. Their proofs are held to
+-- these types in proofs/Demands.antt, whose one value of `Demands` the gate checks.
 use mathlib.Core.Path.{_≡_}
 use mathlib.Core.Bool.{true, cond}
 use mathlib.Core.List.{List, [], _∷_, _++_, List·Memᴰ}
@@ -18,41 +18,41 @@ use Rattle.rules.specs.declared.Answer.the-variants.{Opening, Allocated,
 use Rattle.rules.specs.Round.{Below}
 use Rattle.rules.specs.Kinds.{addr, place}
 use Rattle.rules.specs.Holes.{hole}
-use Rattle.rules.specs.Sound.{unopened, sound, holes}
+use Rattle.rules.specs.Sound.{unopened, holes}
 use Rattle.rules.specs.Calls.{Call, opening, allocate, free, extend, list, room, Outcome, refused, told, done}
-use Rattle.rules.specs.Answers.{numbers, answerNumbers}
-use Rattle.rules.specs.Outcome.{outcome, After, after, Is, Rows, rowsAfter}
-pub use Rattle.rules.specs.InWords.{Good, Valid}
-use Rattle.rules.specs.InWords.{endOf, SoundNumbers, Sound, Hold, Rounds, Lies, RoomAt, Within, Vacant, Left, NoStart, NoLayout, NoSpan}
-use Rattle.rules.specs.Runs.{Fits, Reader, reading, Ask, calls, AllFit, Told, Kept, Run, Block, Box, start, comesTo, tells, ends, Honest}
+use Rattle.rules.specs.Answers.{numbers}
+use Rattle.rules.specs.Outcome.{After, after, Is, Rows}
+use Rattle.rules.specs.InWords.{Valid, endOf, SoundNumbers, Sound, Hold, Rounds, Lies, RoomAt, Within, Vacant, Left, NoStart, NoLayout, NoSpan}
+use Rattle.rules.specs.Runs.{Fits, Reader, Ask, calls, AllFit, Told, Kept, Run, Block, Box, start, comesTo, tells, ends, Honest}
+use Rattle.rules.specs.Behaviour.{Behaviour, ours, Good}
 use Rattle.rules.specs.LeftOut.{Harmless}
 use Rattle.rules.specs.Weighed.{Weighed}
 use Rattle.rules.specs.Premises.{Met}
 
 -- ---- "A heap is sound if": the test that the calls make is the paper's rule
 
-abbrev pub SoundMeans : Type 0
-SoundMeans = (h : Heap) (ks : List Hole) → (sound h ks ≡ true → Sound h ks) × (Sound h ks → sound h ks ≡ true)
+abbrev pub SoundMeans : Behaviour → Type 0
+SoundMeans b = (h : Heap) (ks : List Hole) → (b .sound h ks ≡ true → Sound h ks) × (Sound h ks → b .sound h ks ≡ true)
 
 -- ---- "Unopened: bottom is 0 and so is the rest."
 
-pub record UnopenedIs : Type 0 where
-  pub base : unopened .base .0 ≡ 0
-  pub len : unopened .len ≡ 0
-  pub bottom : unopened .bottom .0 ≡ 0
-  pub top : unopened .top .0 ≡ 0
-  pub first : unopened .first .0 ≡ 0
-  pub pending : unopened .pending ≡ 0
-  pub used : unopened .used ≡ 0
+pub record UnopenedIs (b : Behaviour) : Type 0 where
+  pub base : b .unopened .base .0 ≡ 0
+  pub len : b .unopened .len ≡ 0
+  pub bottom : b .unopened .bottom .0 ≡ 0
+  pub top : b .unopened .top .0 ≡ 0
+  pub first : b .unopened .first .0 ≡ 0
+  pub pending : b .unopened .pending ≡ 0
+  pub used : b .unopened .used ≡ 0
 
 -- ---- "Its first 16 bytes are its head: size, then the place of the next head [..], each 8 bytes, low byte first; all ones in the second
 -- means none": sound holes are those of a heap exactly if its heads hold them
 
-abbrev pub HolesMean : Type 0
-HolesMean =
+abbrev pub HolesMean : Behaviour → Type 0
+HolesMean b =
     (h : Heap) (m : List ℕ)
-    → ((ks : List Hole) → Sound h ks → Hold (h .base .0) m (h .first .0) ks → holes h m ≡ ks)
-    × (Sound h (holes h m) → Hold (h .base .0) m (h .first .0) (holes h m))
+    → ((ks : List Hole) → Sound h ks → Hold (h .base .0) m (h .first .0) ks → b .holes h m ≡ ks)
+    × (Sound h (b .holes h m) → Hold (h .base .0) m (h .first .0) (b .holes h m))
 
 -- ---- demand 1: "Whatever numbers and memory a call is lent, it ends with an answer. Every entry tests its own input. A refusal carries
 -- its number from the build rules and alters neither heap nor memory."
@@ -71,60 +71,60 @@ abbrev pub row : Refusal → Type 0 → Row
 row r t = record { gives = r; «exactly-if» = t }
 
 -- the table of refusals, for each call in the order of its tests
-abbrev openedRows : Heap → List ℕ → List Row
-openedRows h m =
+abbrev openedRows : Behaviour → Heap → List ℕ → List Row
+openedRows b h m =
     row Unopened (h .bottom .0 ≡ 0)
     ∷ row OtherLength (length m ≡ h .len → ⊥)
-    ∷ row NotSound (Sound h (holes h m) → ⊥)
+    ∷ row NotSound (Sound h (b .holes h m) → ⊥)
     ∷ []
 
-abbrev pub refusalsOf : Call → Heap → List ℕ → List Row
-refusalsOf (opening base named) h m =
+abbrev pub refusalsOf : Behaviour → Call → Heap → List ℕ → List Row
+refusalsOf b (opening base named) h m =
     row Opened (h .bottom .0 ≡ 0 → ⊥) ∷ row BadOpening (NoStart (length m) (base .0) named) ∷ []
-refusalsOf (allocate s align) h m =
-    openedRows h m
+refusalsOf b (allocate s align) h m =
+    openedRows b h m
     ++ (row BadLayout (NoLayout s align)
-    ∷ row (NoRoom (length (holes h m))) ((r : ℕ) → Rounds s r → (x : ℕ) → RoomAt r align (holes h m) x → ⊥)
+    ∷ row (NoRoom (length (b .holes h m))) ((r : ℕ) → Rounds s r → (x : ℕ) → RoomAt r align (b .holes h m) x → ⊥)
     ∷ [])
-refusalsOf (free x s align) h m =
-    openedRows h m
+refusalsOf b (free x s align) h m =
+    openedRows b h m
     ++ (row BadLayout (NoLayout s align)
-    ∷ row BadSpan ((r : ℕ) × Rounds s r × NoSpan h (holes h m) (x .0) r align)
+    ∷ row BadSpan ((r : ℕ) × Rounds s r × NoSpan h (b .holes h m) (x .0) r align)
     ∷ [])
-refusalsOf (extend by) h m =
-    openedRows h m ++ (row PastArena (h .base .0 + h .len < h .top .0 + h .pending + by) ∷ [])
-refusalsOf list h m = openedRows h m
-refusalsOf room h m = openedRows h m
+refusalsOf b (extend by) h m =
+    openedRows b h m ++ (row PastArena (h .base .0 + h .len < h .top .0 + h .pending + by) ∷ [])
+refusalsOf b list h m = openedRows b h m
+refusalsOf b room h m = openedRows b h m
 
-abbrev pub RefusalsExactly : Type 0
-RefusalsExactly = (c : Call) (h : Heap) (m : List ℕ) → Fits c → Decides (refusalsOf c h m) (outcome c h m)
+abbrev pub RefusalsExactly : Behaviour → Type 0
+RefusalsExactly b = (c : Call) (h : Heap) (m : List ℕ) → Fits c → Decides (refusalsOf b c h m) (b .outcome c h m)
 
 -- a refusal alters nothing
-abbrev pub RefusalsKeep : Type 0
-RefusalsKeep =
-    (c : Call) (h : Heap) (m : List ℕ) (rows : Rows) (r : Refusal) → outcome c h m ≡ refused r
-    → (after c h m .answer ≡ Refused r) × (after c h m .heap ≡ h) × (after c h m .arena ≡ m) × (rowsAfter c h m rows ≡ rows)
+abbrev pub RefusalsKeep : Behaviour → Type 0
+RefusalsKeep b =
+    (c : Call) (h : Heap) (m : List ℕ) (rows : Rows) (r : Refusal) → b .outcome c h m ≡ refused r
+    → (b .after c h m .answer ≡ Refused r) × (b .after c h m .heap ≡ h) × (b .after c h m .arena ≡ m) × (b .rowsAfter c h m rows ≡ rows)
 
 -- and carries its number and zeros, 7 its count
-pub record RefusalNumbers : Type 0 where
-  pub one : answerNumbers (Refused BadOpening) ≡ numbers 1 0 0
-  pub two : answerNumbers (Refused Opened) ≡ numbers 2 0 0
-  pub three : answerNumbers (Refused Unopened) ≡ numbers 3 0 0
-  pub four : answerNumbers (Refused OtherLength) ≡ numbers 4 0 0
-  pub five : answerNumbers (Refused NotSound) ≡ numbers 5 0 0
-  pub six : answerNumbers (Refused BadLayout) ≡ numbers 6 0 0
-  pub seven : (n : ℕ) → answerNumbers (Refused (NoRoom n)) ≡ numbers 7 0 n
-  pub eight : answerNumbers (Refused BadSpan) ≡ numbers 8 0 0
-  pub nine : answerNumbers (Refused PastArena) ≡ numbers 9 0 0
+pub record RefusalNumbers (b : Behaviour) : Type 0 where
+  pub one : b .answerNumbers (Refused BadOpening) ≡ numbers 1 0 0
+  pub two : b .answerNumbers (Refused Opened) ≡ numbers 2 0 0
+  pub three : b .answerNumbers (Refused Unopened) ≡ numbers 3 0 0
+  pub four : b .answerNumbers (Refused OtherLength) ≡ numbers 4 0 0
+  pub five : b .answerNumbers (Refused NotSound) ≡ numbers 5 0 0
+  pub six : b .answerNumbers (Refused BadLayout) ≡ numbers 6 0 0
+  pub seven : (n : ℕ) → b .answerNumbers (Refused (NoRoom n)) ≡ numbers 7 0 n
+  pub eight : b .answerNumbers (Refused BadSpan) ≡ numbers 8 0 0
+  pub nine : b .answerNumbers (Refused PastArena) ≡ numbers 9 0 0
 
 -- an accepted call's number is 0, with its two values
-pub record AnswerNumbers : Type 0 where
-  pub opens : (a : Addr) (n : ℕ) → answerNumbers (Opening a n) ≡ numbers 0 (a .0) n
-  pub allocates : (a : Addr) (n : ℕ) → answerNumbers (Allocated a n) ≡ numbers 0 (a .0) n
-  pub frees : (x y : ℕ) → answerNumbers (Freed x y) ≡ numbers 0 x y
-  pub extends : (x y : ℕ) → answerNumbers (Extended x y) ≡ numbers 0 x y
-  pub lists : (x y : ℕ) → answerNumbers (Listed x y) ≡ numbers 0 x y
-  pub reports : (x y : ℕ) → answerNumbers (Room x y) ≡ numbers 0 x y
+pub record AnswerNumbers (b : Behaviour) : Type 0 where
+  pub opens : (a : Addr) (n : ℕ) → b .answerNumbers (Opening a n) ≡ numbers 0 (a .0) n
+  pub allocates : (a : Addr) (n : ℕ) → b .answerNumbers (Allocated a n) ≡ numbers 0 (a .0) n
+  pub frees : (x y : ℕ) → b .answerNumbers (Freed x y) ≡ numbers 0 x y
+  pub extends : (x y : ℕ) → b .answerNumbers (Extended x y) ≡ numbers 0 x y
+  pub lists : (x y : ℕ) → b .answerNumbers (Listed x y) ≡ numbers 0 x y
+  pub reports : (x y : ℕ) → b .answerNumbers (Room x y) ≡ numbers 0 x y
 
 -- ---- demand 2: "a request gets the lowest address, a multiple of its alignment, where its rounded size lies in one hole and leaves 0 or
 -- at least 16 bytes on each side; it is refused for room exactly when there is none."
@@ -160,18 +160,18 @@ pub record Granted (r align : ℕ) (h : Heap) (ks : List Hole) (o : Outcome) : T
   pub split : new ≡ front ++ (piece (used .addr .0) at ++ (piece (at + r) (endOf used) ++ back))
   pub becomes : Becomes h new (h .top .0) (h .pending) (h .used + r) heap
 
-abbrev pub Demand2 : Type 0
-Demand2 =
-    (h : Heap) (m : List ℕ) (s align r : ℕ) → Good h m → Valid s align r
-    → (((x : ℕ) × RoomAt r align (holes h m) x) → Granted r align h (holes h m) (outcome (allocate s align) h m))
-    × (((x : ℕ) → RoomAt r align (holes h m) x → ⊥) → outcome (allocate s align) h m ≡ refused (NoRoom (length (holes h m))))
+abbrev pub Demand2 : Behaviour → Type 0
+Demand2 b =
+    (h : Heap) (m : List ℕ) (s align r : ℕ) → Good b h m → Valid s align r
+    → (((x : ℕ) × RoomAt r align (b .holes h m) x) → Granted r align h (b .holes h m) (b .outcome (allocate s align) h m))
+    × (((x : ℕ) → RoomAt r align (b .holes h m) x → ⊥) → b .outcome (allocate s align) h m ≡ refused (NoRoom (length (b .holes h m))))
 
 -- ---- the other calls
 
-abbrev pub OpenDoes : Type 0
-OpenDoes =
+abbrev pub OpenDoes : Behaviour → Type 0
+OpenDoes b =
     (h : Heap) (m : List ℕ) (base named bottom s : ℕ) → h .bottom .0 ≡ 0 → (NoStart (length m) base named → ⊥) → Left base named bottom s
-    → outcome (opening (addr base) named) h m
+    → b .outcome (opening (addr base) named) h m
     ≡ done (Opening (addr bottom) s)
     (record {
       base = addr base;
@@ -192,38 +192,38 @@ pub record Joined (h : Heap) (ks : List Hole) (x s : ℕ) (top pending used : �
   pub sound : Sound h′ new
   pub becomes : Becomes h new top pending used h′
 
-abbrev pub FreeDoes : Type 0
-FreeDoes =
-    (h : Heap) (m : List ℕ) (x : Addr) (s align r : ℕ) → Good h m → Valid s align r → (NoSpan h (holes h m) (x .0) r align → ⊥)
+abbrev pub FreeDoes : Behaviour → Type 0
+FreeDoes b =
+    (h : Heap) (m : List ℕ) (x : Addr) (s align r : ℕ) → Good b h m → Valid s align r → (NoSpan h (b .holes h m) (x .0) r align → ⊥)
     → (h′ : Heap) × (new : List Hole)
-    × (outcome (free x s align) h m ≡ done (Freed r (h .used - r)) h′ new)
+    × (b .outcome (free x s align) h m ≡ done (Freed r (h .used - r)) h′ new)
     × (r ≤ h .used)
-    × Joined h (holes h m) (x .0) r (h .top .0) (h .pending) (h .used - r) h′ new
+    × Joined h (b .holes h m) (x .0) r (h .top .0) (h .pending) (h .used - r) h′ new
 
-abbrev pub ExtendGathers : Type 0
-ExtendGathers =
-    (h : Heap) (m : List ℕ) (by : ℕ) → Good h m → h .top .0 + h .pending + by ≤ h .base .0 + h .len → h .pending + by < 16
+abbrev pub ExtendGathers : Behaviour → Type 0
+ExtendGathers b =
+    (h : Heap) (m : List ℕ) (by : ℕ) → Good b h m → h .top .0 + h .pending + by ≤ h .base .0 + h .len → h .pending + by < 16
     → (h′ : Heap)
-    × (outcome (extend by) h m ≡ done (Extended (h .top .0 - h .bottom .0) (h .pending + by)) h′ (holes h m))
-    × Becomes h (holes h m) (h .top .0) (h .pending + by) (h .used) h′
+    × (b .outcome (extend by) h m ≡ done (Extended (h .top .0 - h .bottom .0) (h .pending + by)) h′ (b .holes h m))
+    × Becomes h (b .holes h m) (h .top .0) (h .pending + by) (h .used) h′
 
-abbrev pub ExtendGrows : Type 0
-ExtendGrows =
-    (h : Heap) (m : List ℕ) (by s : ℕ) → Good h m → h .top .0 + h .pending + by ≤ h .base .0 + h .len → 16 ≤ h .pending + by
+abbrev pub ExtendGrows : Behaviour → Type 0
+ExtendGrows b =
+    (h : Heap) (m : List ℕ) (by s : ℕ) → Good b h m → h .top .0 + h .pending + by ≤ h .base .0 + h .len → 16 ≤ h .pending + by
     → Below 8 (h .pending + by) s
     → (h′ : Heap) × (new : List Hole)
-    × (outcome (extend by) h m ≡ done (Extended (h .top .0 + s - h .bottom .0) (h .pending + by - s)) h′ new)
-    × Joined h (holes h m) (h .top .0) s (h .top .0 + s) (h .pending + by - s) (h .used) h′ new
+    × (b .outcome (extend by) h m ≡ done (Extended (h .top .0 + s - h .bottom .0) (h .pending + by - s)) h′ new)
+    × Joined h (b .holes h m) (h .top .0) s (h .top .0 + s) (h .pending + by - s) (h .used) h′ new
 
 -- n is the size of the largest hole, 0 if none
 pub record Largest (ks : List Hole) (n : ℕ) : Type 0 where
   pub most : (k : Hole) → List·Memᴰ k ks → k .size ≤ n
   pub one : (ks ≡ [] → n ≡ 0) × ((ks ≡ [] → ⊥) → (k : Hole) × List·Memᴰ k ks × (k .size ≡ n))
 
-abbrev pub RoomDoes : Type 0
-RoomDoes =
-    (h : Heap) (m : List ℕ) → Good h m
-    → (n : ℕ) × Largest (holes h m) n × (outcome room h m ≡ told (Room n (length (holes h m))) [])
+abbrev pub RoomDoes : Behaviour → Type 0
+RoomDoes b =
+    (h : Heap) (m : List ℕ) → Good b h m
+    → (n : ℕ) × Largest (b .holes h m) n × (b .outcome room h m ≡ told (Room n (length (b .holes h m))) [])
 
 -- the i-th number of a row: of the i-th hole, as far as the shorter row holds; else what stood there
 abbrev pub rowAt : (Hole → ℕ) → List Hole → ℕ → List ℕ → List ℕ → Type 0
@@ -232,62 +232,86 @@ rowAt f ks n row row′ =
     × ((front back : List Hole) (k : Hole) → ks ≡ front ++ (k ∷ back) → length front < n → getD row′ (length front) 0 ≡ f k)
     × ((i : ℕ) → min n (length ks) ≤ i → getD row′ i 0 ≡ getD row i 0)
 
-abbrev pub ListDoes : Type 0
-ListDoes =
-    (h : Heap) (m : List ℕ) (r : Rows) → Good h m
-    → (outcome list h m ≡ told (Listed (length (holes h m)) (h .top .0 - h .bottom .0 - h .used)) (holes h m))
-    × rowAt (λ k. k .addr .0) (holes h m) (min (length (r .addrs)) (length (r .sizes))) (r .addrs) (rowsAfter list h m r .addrs)
-    × rowAt (λ k. k .size) (holes h m) (min (length (r .addrs)) (length (r .sizes))) (r .sizes) (rowsAfter list h m r .sizes)
+abbrev pub ListDoes : Behaviour → Type 0
+ListDoes b =
+    (h : Heap) (m : List ℕ) (r : Rows) → Good b h m
+    → (b .outcome list h m ≡ told (Listed (length (b .holes h m)) (h .top .0 - h .bottom .0 - h .used)) (b .holes h m))
+    × rowAt (λ k. k .addr .0) (b .holes h m) (min (length (r .addrs)) (length (r .sizes))) (r .addrs) (b .rowsAfter list h m r .addrs)
+    × rowAt (λ k. k .size) (b .holes h m) (min (length (r .addrs)) (length (r .sizes))) (r .sizes) (b .rowsAfter list h m r .sizes)
 
 -- the rows of other calls stay
-abbrev pub OtherRows : Type 0
-OtherRows = (c : Call) (h : Heap) (m : List ℕ) (r : Rows) → (c ≡ list → ⊥) → rowsAfter c h m r ≡ r
+abbrev pub OtherRows : Behaviour → Type 0
+OtherRows b = (c : Call) (h : Heap) (m : List ℕ) (r : Rows) → (c ≡ list → ⊥) → b .rowsAfter c h m r ≡ r
 
-pub record Reads (h : Heap) (b t s u f : ℕ) : Type 0 where
-  pub bottom : reading Reader.bottom h ≡ b
-  pub top : reading Reader.top h ≡ t
-  pub size : reading Reader.size h ≡ s
-  pub used : reading Reader.used h ≡ u
-  pub freeBytes : reading Reader.freeBytes h ≡ f
+pub record Reads (b : Behaviour) (h : Heap) (lo hi s u f : ℕ) : Type 0 where
+  pub bottom : b .reading Reader.bottom h ≡ lo
+  pub top : b .reading Reader.top h ≡ hi
+  pub size : b .reading Reader.size h ≡ s
+  pub used : b .reading Reader.used h ≡ u
+  pub freeBytes : b .reading Reader.freeBytes h ≡ f
 
-abbrev pub ReadersDo : Type 0
-ReadersDo =
+abbrev pub ReadersDo : Behaviour → Type 0
+ReadersDo b =
     (h : Heap)
     → (SoundNumbers h
     → h .used ≤ h .top .0 - h .bottom .0
-    → Reads h (h .bottom .0) (h .top .0 + h .pending) (h .top .0 - h .bottom .0) (h .used) (h .top .0 - h .bottom .0 - h .used))
-    × ((SoundNumbers h × (h .used ≤ h .top .0 - h .bottom .0) → ⊥) → Reads h 0 0 0 0 0)
+    → Reads b h (h .bottom .0) (h .top .0 + h .pending) (h .top .0 - h .bottom .0) (h .used) (h .top .0 - h .bottom .0 - h .used))
+    × ((SoundNumbers h × (h .used ≤ h .top .0 - h .bottom .0) → ⊥) → Reads b h 0 0 0 0 0)
 
 -- ---- "After an accepted call each head holds its hole's numbers. Every byte that lies in no head of the new list is what it was before."
 
-abbrev pub Memory : Type 0
-Memory =
-    (c : Call) (h : Heap) (m : List ℕ) (a : Answer) (h′ : Heap) (ks : List Hole) → Fits c → outcome c h m ≡ done a h′ ks
-    → (after c h m .answer ≡ a)
-    × (after c h m .heap ≡ h′)
-    × (length (after c h m .arena) ≡ length m)
-    × (holes h′ (after c h m .arena) ≡ ks)
+abbrev pub Memory : Behaviour → Type 0
+Memory b =
+    (c : Call) (h : Heap) (m : List ℕ) (a : Answer) (h′ : Heap) (ks : List Hole) → Fits c → b .outcome c h m ≡ done a h′ ks
+    → (b .after c h m .answer ≡ a)
+    × (b .after c h m .heap ≡ h′)
+    × (length (b .after c h m .arena) ≡ length m)
+    × (b .holes h′ (b .after c h m .arena) ≡ ks)
     × ((i : ℕ)
     → ((k : Hole) → List·Memᴰ k ks → Within (k .addr .0 - h′ .base .0) 16 i → ⊥)
-    → getD (after c h m .arena) i 0 ≡ getD m i 0)
+    → getD (b .after c h m .arena) i 0 ≡ getD m i 0)
 
 -- what is written are bytes
-abbrev pub BytesStay : Type 0
-BytesStay =
-    (c : Call) (h : Heap) (m : List ℕ) → ((i : ℕ) → getD m i 0 < 256) → (i : ℕ) → getD (after c h m .arena) i 0 < 256
+abbrev pub BytesStay : Behaviour → Type 0
+BytesStay b =
+    (c : Call) (h : Heap) (m : List ℕ) → ((i : ℕ) → getD m i 0 < 256) → (i : ℕ) → getD (b .after c h m .arena) i 0 < 256
 
 -- a call that only tells changes nothing
-abbrev pub TellsOnly : Type 0
-TellsOnly =
-    (c : Call) (h : Heap) (m : List ℕ) (a : Answer) (ks : List Hole) → outcome c h m ≡ told a ks
-    → (after c h m .answer ≡ a) × (after c h m .heap ≡ h) × (after c h m .arena ≡ m)
+abbrev pub TellsOnly : Behaviour → Type 0
+TellsOnly b =
+    (c : Call) (h : Heap) (m : List ℕ) (a : Answer) (ks : List Hole) → b .outcome c h m ≡ told a ks
+    → (b .after c h m .answer ≡ a) × (b .after c h m .heap ≡ h) × (b .after c h m .arena ≡ m)
 
 -- ---- soundness is kept
 
-abbrev pub SoundKept : Type 0
-SoundKept =
-    (c : Call) (h : Heap) (m : List ℕ) (a : Answer) (h′ : Heap) (ks : List Hole) → Fits c → outcome c h m ≡ done a h′ ks
+abbrev pub SoundKept : Behaviour → Type 0
+SoundKept b =
+    (c : Call) (h : Heap) (m : List ℕ) (a : Answer) (h′ : Heap) (ks : List Hole) → Fits c → b .outcome c h m ≡ done a h′ ks
     → Sound h′ ks × (length ks ≤ (h′ .top .0 - h′ .bottom .0 + 16) / 32)
+
+-- ---- all that is said of the calls, one by one
+
+pub record Statements (b : Behaviour) : Type 0 where
+  pub soundMeans : SoundMeans b
+  pub unopenedIs : UnopenedIs b
+  pub holesMean : HolesMean b
+  pub refusalsExactly : RefusalsExactly b
+  pub refusalsKeep : RefusalsKeep b
+  pub refusalNumbers : RefusalNumbers b
+  pub answerNumbers : AnswerNumbers b
+  pub demand2 : Demand2 b
+  pub openDoes : OpenDoes b
+  pub freeDoes : FreeDoes b
+  pub extendGathers : ExtendGathers b
+  pub extendGrows : ExtendGrows b
+  pub roomDoes : RoomDoes b
+  pub listDoes : ListDoes b
+  pub otherRows : OtherRows b
+  pub readersDo : ReadersDo b
+  pub memory : Memory b
+  pub bytesStay : BytesStay b
+  pub tellsOnly : TellsOnly b
+  pub soundKept : SoundKept b
 
 -- ---- demand 3: "Take two boxes opened alike and given the same calls. Their memories may differ anywhere at the start, and between calls
 -- anyone may write any bytes save the first 16 of each hole. [..] both boxes give the same answers, counts and holes, those that follow
@@ -363,26 +387,7 @@ NothingLoose = (a : After) (d e : Done) (m w : List ℕ) → Is a d m → Is a e
 -- ---- all of them
 
 pub record Demands : Type 0 where
-  pub soundMeans : SoundMeans
-  pub unopenedIs : UnopenedIs
-  pub holesMean : HolesMean
-  pub refusalsExactly : RefusalsExactly
-  pub refusalsKeep : RefusalsKeep
-  pub refusalNumbers : RefusalNumbers
-  pub answerNumbers : AnswerNumbers
-  pub demand2 : Demand2
-  pub openDoes : OpenDoes
-  pub freeDoes : FreeDoes
-  pub extendGathers : ExtendGathers
-  pub extendGrows : ExtendGrows
-  pub roomDoes : RoomDoes
-  pub listDoes : ListDoes
-  pub otherRows : OtherRows
-  pub readersDo : ReadersDo
-  pub memory : Memory
-  pub bytesStay : BytesStay
-  pub tellsOnly : TellsOnly
-  pub soundKept : SoundKept
+  pub calls : Statements ours
   pub followsFromCalls : FollowsFromCalls
   pub sideBySide : SideBySide
   pub neverUnsound : NeverUnsound

@@ -3,11 +3,10 @@ use mathlib.Core.Path.{_≡_}
 use mathlib.Core.List.{List, [], _∷_, _++_, List·Memᴰ}
 use mathlib.Core.Logic.{_⊎_}
 use Prim.Native.Nat.{ℕ, _+_, _*_, _-_, _%_, _^_, _≤_, _<_}
-use lib.ListN.{length, getD}
+use lib.ListN.{getD}
 use Rattle.rules.specs.declared.Hole.{Hole}
 use Rattle.rules.specs.declared.Heap.{Heap}
 use Rattle.rules.specs.Round.{Power, Below, Above}
-use Rattle.rules.specs.Sound.{holes}
 
 -- no bytes, or at least 16, from lo to hi
 abbrev pub Gap : ℕ → ℕ → Type 0
@@ -49,10 +48,6 @@ pub record SoundHoles (h : Heap) (ks : List Hole) : Type 0 where
 
 abbrev pub Sound : Heap → List Hole → Type 0
 Sound h ks = SoundNumbers h × SoundHoles h ks
-
--- a sound heap with its arena
-abbrev pub Good : Heap → List ℕ → Type 0
-Good h m = (length m ≡ h .len) × Sound h (holes h m)
 
 -- ---- what the bytes hold
 

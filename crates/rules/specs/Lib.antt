@@ -25,6 +25,8 @@ pub mod LeftOut
 -- the demands: the paper's words as statements
 pub mod InWords
 pub mod Runs
+-- what a box does, as one value
+pub mod Behaviour
 -- that their premises can be met
 pub mod Premises
 pub mod Demands

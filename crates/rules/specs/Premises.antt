@@ -19,8 +19,9 @@ use Rattle.rules.specs.Sound.{unopened, holes}
 use Rattle.rules.specs.Calls.{Call, opening, allocate, free, extend, list, room}
 use Rattle.rules.specs.Refusals.{refusal8}
 use Rattle.rules.specs.Outcome.{after, Rows}
-use Rattle.rules.specs.InWords.{SoundNumbers, Sound, Good, Valid, RoomAt, Left, NoStart, NoSpan}
+use Rattle.rules.specs.InWords.{SoundNumbers, Sound, Valid, RoomAt, Left, NoStart, NoSpan}
 use Rattle.rules.specs.Runs.{Reader, Ask, calls, reads, AllFit, Told, answers, says, Kept, Run, end, own, other, asked, Block, block, start, ends, Honest}
+use Rattle.rules.specs.Behaviour.{ours, Good}
 
 -- ---- a story: what is asked of a box of 96 bytes at 0x1001, and what it tells
 
@@ -153,7 +154,7 @@ pub record OnGood : Type 0 where
   -- it has two holes
   pub heap : Heap
   pub arena : List ℕ
-  pub good : Good heap arena
+  pub good : Good ours heap arena
   pub two : length (holes heap arena) ≡ 2
   -- a valid layout that there is room for
   pub roomy : (s : ℕ) × (align : ℕ) × (r : ℕ) × (x : ℕ) × Valid s align r × RoomAt r align (holes heap arena) x
