@@ -62,5 +62,8 @@ pub mod HeldRuns
 -- the premises can be met
 pub mod Played
 pub mod Premises
+-- what the demands fix is one thing: a heap, a row
+pub mod OneHeap
+pub mod OneRow
 -- all of the demands
 pub mod Demands
