@@ -66,5 +66,9 @@ pub mod Premises
 pub mod OneHeap
 pub mod OneList
 pub mod OneRow
+-- two behaviours that meet the statements: the tests that all calls share, and what comes of each call
+pub mod Verdict
+pub mod Settles
+pub mod Determined
 -- all of the demands
 pub mod Demands

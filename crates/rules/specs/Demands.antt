@@ -313,6 +313,19 @@ pub record Statements (b : Behaviour) : Type 0 where
   pub tellsOnly : TellsOnly b
   pub soundKept : SoundKept b
 
+-- ---- and no more can be said: two behaviours that meet the statements do the same, to the last byte
+
+pub record Same (b e : Behaviour) : Type 0 where
+  pub after :
+      (c : Call) (h : Heap) (m : List ℕ) → Fits c → ((i : ℕ) → getD m i 0 < 256) → b .after c h m ≡ e .after c h m
+  pub rows : (c : Call) (h : Heap) (m : List ℕ) (r : Rows) → Fits c → b .rowsAfter c h m r ≡ e .rowsAfter c h m r
+  pub readings : (x : Reader) (h : Heap) → b .reading x h ≡ e .reading x h
+  pub numbers : (a : Answer) → b .answerNumbers a ≡ e .answerNumbers a
+  pub unopened : b .unopened ≡ e .unopened
+
+abbrev pub Determined : Type 0
+Determined = (b e : Behaviour) → Statements b → Statements e → Same b e
+
 -- ---- demand 3: "Take two boxes opened alike and given the same calls. Their memories may differ anywhere at the start, and between calls
 -- anyone may write any bytes save the first 16 of each hole. [..] both boxes give the same answers, counts and holes, those that follow
 -- from the calls alone."

@@ -1,0 +1,113 @@
+-- Two behaviours that meet the statements do the same, to the last byte. Assumes nothing.
+use mathlib.Core.Path.{_≡_, refl, sym, _∙_}
+use mathlib.Core.List.{List, [], _∷_, List·Memᴰ, List·Memᴰ·head, List·Memᴰ·tail, List·Memᴰ·not-nil, List·Memᴰ·cases-cons}
+use mathlib.Core.Logic.{⊎-elim}
+use Prim.Native.Nat.{ℕ, _+_, _-_, _≤_, _<_, min}
+use native.Mathlib.Omega.{arith}
+use lib.ListN.{length, getD}
+use lib.Seq.{ext-getD}
+use Rattle.rules.specs.declared.Hole.{Hole}
+use Rattle.rules.specs.declared.Heap.{Heap}
+use Rattle.rules.specs.declared.Refusal.{Refusal}
+use Rattle.rules.specs.declared.Refusal.the-variants.{BadOpening, Opened, Unopened, OtherLength, NotSound, BadLayout, NoRoom, BadSpan, PastArena}
+use Rattle.rules.specs.declared.Answer.{Answer}
+use Rattle.rules.specs.declared.Answer.the-variants.{Opening, Allocated, Freed, Extended, Listed, Room, Refused}
+use Rattle.rules.specs.Kinds.{addr, place}
+use Rattle.rules.specs.Calls.{Call, opening, allocate, free, extend, list, room, Outcome, refused, told, done}
+use Rattle.rules.specs.Outcome.{After, Rows}
+use Rattle.rules.specs.InWords.{SoundNumbers, Within}
+use Rattle.rules.specs.Runs.{Fits, Reader}
+use Rattle.rules.specs.Behaviour.{Behaviour}
+use Rattle.rules.specs.Demands.{RefusalNumbers, AnswerNumbers, UnopenedIs, Reads, ReadersDo, Statements, Determined}
+use Rattle.rules.proofs.Cases.{by-eq, by-le}
+use Rattle.rules.proofs.OneRow.{one-row}
+use Rattle.rules.proofs.Verdict.{entry}
+use Rattle.rules.proofs.Settles.{settled}
+
+-- ---- numbers
+
+module _ (b e : Behaviour) where
+  refusal-same : RefusalNumbers b → RefusalNumbers e → (r : Refusal) → b .answerNumbers (Refused r) ≡ e .answerNumbers (Refused r)
+  refusal-same p q BadOpening = p .one ∙ sym (q .one)
+  refusal-same p q Opened = p .two ∙ sym (q .two)
+  refusal-same p q Unopened = p .three ∙ sym (q .three)
+  refusal-same p q OtherLength = p .four ∙ sym (q .four)
+  refusal-same p q NotSound = p .five ∙ sym (q .five)
+  refusal-same p q BadLayout = p .six ∙ sym (q .six)
+  refusal-same p q (NoRoom n) = p .seven n ∙ sym (q .seven n)
+  refusal-same p q BadSpan = p .eight ∙ sym (q .eight)
+  refusal-same p q PastArena = p .nine ∙ sym (q .nine)
+
+  answer-same : Statements b → Statements e → (a : Answer) → b .answerNumbers a ≡ e .answerNumbers a
+  answer-same p q (Opening a n) = p .answerNumbers .opens a n ∙ sym (q .answerNumbers .opens a n)
+  answer-same p q (Allocated a n) = p .answerNumbers .allocates a n ∙ sym (q .answerNumbers .allocates a n)
+  answer-same p q (Freed x y) = p .answerNumbers .frees x y ∙ sym (q .answerNumbers .frees x y)
+  answer-same p q (Extended x y) = p .answerNumbers .extends x y ∙ sym (q .answerNumbers .extends x y)
+  answer-same p q (Listed x y) = p .answerNumbers .lists x y ∙ sym (q .answerNumbers .lists x y)
+  answer-same p q (Room x y) = p .answerNumbers .reports x y ∙ sym (q .answerNumbers .reports x y)
+  answer-same p q (Refused r) = refusal-same (p .refusalNumbers) (q .refusalNumbers) r
+
+  reads-same : {h : Heap} {lo hi s u f : ℕ} → Reads b h lo hi s u f → Reads e h lo hi s u f → (x : Reader) → b .reading x h ≡ e .reading x h
+  reads-same p q Reader.bottom = p .bottom ∙ sym (q .bottom)
+  reads-same p q Reader.top = p .top ∙ sym (q .top)
+  reads-same p q Reader.size = p .size ∙ sym (q .size)
+  reads-same p q Reader.used = p .used ∙ sym (q .used)
+  reads-same p q Reader.freeBytes = p .freeBytes ∙ sym (q .freeBytes)
+
+  -- two numbers that cannot differ are equal
+  reading-same : ReadersDo b → ReadersDo e → (x : Reader) (h : Heap) → b .reading x h ≡ e .reading x h
+  reading-same p q x h =
+      by-eq (b .reading x h) (e .reading x h)
+      (λ same. same)
+      (λ n.
+      let unread : SoundNumbers h × (h .used ≤ h .top .0 - h .bottom .0) → ⊥ =
+      λ s. n (reads-same (p h .0 (s .0) (s .1)) (q h .0 (s .0) (s .1)) x) in
+      absurd (n (reads-same (p h .1 unread) (q h .1 unread) x)))
+
+  unopened-same : UnopenedIs b → UnopenedIs e → b .unopened ≡ e .unopened
+  unopened-same p q =
+      let base = p .base ∙ sym (q .base) in
+      let len = p .len ∙ sym (q .len) in
+      let bottom = p .bottom ∙ sym (q .bottom) in
+      let top = p .top ∙ sym (q .top) in
+      let first = p .first ∙ sym (q .first) in
+      let pending = p .pending ∙ sym (q .pending) in
+      let used = p .used ∙ sym (q .used) in
+      λ i.
+      record {
+        base = addr (base i);
+        len = len i;
+        bottom = addr (bottom i);
+        top = addr (top i);
+        first = place (first i);
+        pending = pending i;
+        used = used i;
+      }
+
+-- ---- rows
+
+module _ (b e : Behaviour) (sb : Statements b) (se : Statements e) (h : Heap) (m : List ℕ) (r : Rows) where
+  list-rows : b .rowsAfter list h m r ≡ e .rowsAfter list h m r
+  list-rows =
+      entry b e sb se h m
+      (λ x p q.
+      sb .refusalsKeep list h m r x (p _ _ (sb .refusalsExactly list h m tt)) .3
+      ∙ sym (se .refusalsKeep list h m r x (q _ _ (se .refusalsExactly list h m tt)) .3))
+      (λ p q g j same.
+      let one = sb .listDoes h m r g in
+      let two = rw same at (se .listDoes h m r j) in
+      let n = min (length (r .addrs)) (length (r .sizes)) in
+      let addrs = one-row (λ k. k .addr .0) (b .holes h m) n (r .addrs) _ _ (one .1) (two .1) in
+      let sizes = one-row (λ k. k .size) (b .holes h m) n (r .sizes) _ _ (one .2) (two .2) in
+      λ i. record { addrs = addrs i; sizes = sizes i })
+
+  other-rows : (c : Call) → (c ≡ list → ⊥) → b .rowsAfter c h m r ≡ e .rowsAfter c h m r
+  other-rows c n = sb .otherRows c h m r n ∙ sym (se .otherRows c h m r n)
+
+  rows-same : (c : Call) → b .rowsAfter c h m r ≡ e .rowsAfter c h m r
+  rows-same (opening base named) = other-rows (opening base named) (λ k. let z : _≡_ {A = ℕ} 0 1 = cc in omega arith)
+  rows-same (allocate s align) = other-rows (allocate s align) (λ k. let z : _≡_ {A = ℕ} 0 1 = cc in omega arith)
+  rows-same (free x s align) = other-rows (free x s align) (λ k. let z : _≡_ {A = ℕ} 0 1 = cc in omega arith)
+  rows-same (extend by) = other-rows (extend by) (λ k. let z : _≡_ {A = ℕ} 0 1 = cc in omega arith)
+  rows-same list = list-rows
+  rows-same room = other-rows room (λ k. let z : _≡_ {A = ℕ} 0 1 = cc in omega arith)
