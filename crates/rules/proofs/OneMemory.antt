@@ -1,4 +1,4 @@
--- The heads that hold a list of holes have the same bytes in any two memories; with the same bytes elsewhere the two are one. Assumes nothing.
+-- Heads that hold a list of holes have the same bytes in any two memories; with the same bytes elsewhere the two are one. Assumes nothing.
 use mathlib.Core.Path.{_≡_, refl, sym, _∙_}
 use mathlib.Core.List.{List, [], _∷_, List·Memᴰ, List·Memᴰ·head, List·Memᴰ·tail, List·Memᴰ·not-nil, List·Memᴰ·cases-cons}
 use mathlib.Core.Logic.{⊎-elim}
