@@ -62,9 +62,10 @@ pub mod HeldRuns
 -- the premises can be met
 pub mod Played
 pub mod Premises
--- what the demands fix is one thing: a heap, its holes, a row
+-- what the demands fix is one thing: a heap, its holes, its memory, a row
 pub mod OneHeap
 pub mod OneList
+pub mod OneMemory
 pub mod OneRow
 -- two behaviours that meet the statements: the tests that all calls share, and what comes of each call
 pub mod Verdict
