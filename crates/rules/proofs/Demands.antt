@@ -12,6 +12,7 @@ use Rattle.rules.proofs.Reports.{room-does, list-does}
 use Rattle.rules.proofs.Readings.{readers-do}
 use Rattle.rules.proofs.MemoryWords.{memory}
 use Rattle.rules.proofs.SoundKept.{sound-kept}
+use Rattle.rules.proofs.Determined.{determined}
 use Rattle.rules.proofs.RunLaws.{follows-from-calls, side-by-side, never-unsound}
 use Rattle.rules.proofs.HeldRuns.{held-tile, held-is-freed, held-untouched}
 use Rattle.rules.proofs.LeftOut.{harmless}
@@ -44,6 +45,7 @@ demands =
             tellsOnly = tells-only;
             soundKept = sound-kept;
           };
+      determined = determined;
       followsFromCalls = follows-from-calls;
       sideBySide = side-by-side;
       neverUnsound = never-unsound;

@@ -1,11 +1,9 @@
 -- Two behaviours that meet the statements do the same, to the last byte. Assumes nothing.
 use mathlib.Core.Path.{_≡_, refl, sym, _∙_}
-use mathlib.Core.List.{List, [], _∷_, List·Memᴰ, List·Memᴰ·head, List·Memᴰ·tail, List·Memᴰ·not-nil, List·Memᴰ·cases-cons}
-use mathlib.Core.Logic.{⊎-elim}
-use Prim.Native.Nat.{ℕ, _+_, _-_, _≤_, _<_, min}
+use mathlib.Core.List.{List, []}
+use Prim.Native.Nat.{ℕ, _-_, _≤_, min}
 use native.Mathlib.Omega.{arith}
-use lib.ListN.{length, getD}
-use lib.Seq.{ext-getD}
+use lib.ListN.{length}
 use Rattle.rules.specs.declared.Hole.{Hole}
 use Rattle.rules.specs.declared.Heap.{Heap}
 use Rattle.rules.specs.declared.Refusal.{Refusal}
@@ -15,11 +13,13 @@ use Rattle.rules.specs.declared.Answer.the-variants.{Opening, Allocated,
 use Rattle.rules.specs.Kinds.{addr, place}
 use Rattle.rules.specs.Calls.{Call, opening, allocate, free, extend, list, room, Outcome, refused, told, done}
 use Rattle.rules.specs.Outcome.{After, Rows}
-use Rattle.rules.specs.InWords.{SoundNumbers, Within}
+use Rattle.rules.specs.InWords.{SoundNumbers, Hold}
 use Rattle.rules.specs.Runs.{Fits, Reader}
 use Rattle.rules.specs.Behaviour.{Behaviour}
 use Rattle.rules.specs.Demands.{RefusalNumbers, AnswerNumbers, UnopenedIs, Reads, ReadersDo, Statements, Determined}
-use Rattle.rules.proofs.Cases.{by-eq, by-le}
+use Rattle.rules.proofs.Cases.{by-eq}
+use Rattle.rules.proofs.Words.{Bytes}
+use Rattle.rules.proofs.OneMemory.{one-memory}
 use Rattle.rules.proofs.OneRow.{one-row}
 use Rattle.rules.proofs.Verdict.{entry}
 use Rattle.rules.proofs.Settles.{settled}
@@ -111,3 +111,56 @@ module _ (b e : Behaviour) (sb : Statements b) (se : Statements e) (h : Heap) (m
   rows-same (extend by) = other-rows (extend by) (λ k. let z : _≡_ {A = ℕ} 0 1 = cc in omega arith)
   rows-same list = list-rows
   rows-same room = other-rows room (λ k. let z : _≡_ {A = ℕ} 0 1 = cc in omega arith)
+
+-- ---- answer, heap and arena
+
+-- a call is refused, tells or does
+by-outcome : {X : Type 0} (o : Outcome) → ((r : Refusal) → o ≡ refused r → X) → ((a : Answer) (ks : List Hole) → o ≡ told a ks → X)
+    → ((a : Answer) (h : Heap) (ks : List Hole) → o ≡ done a h ks → X) → X
+by-outcome (refused r) f g k = f r refl
+by-outcome (told a ks) f g k = g a ks refl
+by-outcome (done a h ks) f g k = k a h ks refl
+
+after-is : (a d : After) → a .answer ≡ d .answer → a .heap ≡ d .heap → a .arena ≡ d .arena → a ≡ d
+after-is a d p q r = λ i. record { answer = p i; heap = q i; arena = r i }
+
+module _ (b e : Behaviour) (sb : Statements b) (se : Statements e) (c : Call) (h : Heap) (m : List ℕ) (f : Fits c) where
+  -- the heads hold the new holes
+  holds : (d : Behaviour) → Statements d → (a : Answer) (h′ : Heap) (ks : List Hole) → d .outcome c h m ≡ done a h′ ks
+      → Hold (h′ .base .0) (d .after c h m .arena) (h′ .first .0) ks
+  holds d sd a h′ ks o =
+      let read = sd .memory c h m a h′ ks f o .3 in
+      rw read at (sd .holesMean h′ (d .after c h m .arena) .1 (rw read (sd .soundKept c h m a h′ ks f o .0)))
+
+  after-same : Bytes m → b .after c h m ≡ e .after c h m
+  after-same bytes =
+      let one = b .after c h m in
+      let two = e .after c h m in
+      let o = settled b e sb se h m c f in
+      let none : Rows = record { addrs = []; sizes = [] } in
+      by-outcome (b .outcome c h m)
+      (λ r p.
+      let s = sb .refusalsKeep c h m none r p in
+      let t = se .refusalsKeep c h m none r (sym o ∙ p) in
+      after-is one two (s .0 ∙ sym (t .0)) (s .1 ∙ sym (t .1)) (s .2 ∙ sym (t .2)))
+      (λ a ks p.
+      let s = sb .tellsOnly c h m a ks p in
+      let t = se .tellsOnly c h m a ks (sym o ∙ p) in
+      after-is one two (s .0 ∙ sym (t .0)) (s .1 ∙ sym (t .1)) (s .2 ∙ sym (t .2)))
+      (λ a h′ ks p.
+      let q = sym o ∙ p in
+      let s = sb .memory c h m a h′ ks f p in
+      let t = se .memory c h m a h′ ks f q in
+      after-is one two (s .0 ∙ sym (t .0)) (s .1 ∙ sym (t .1))
+      (one-memory (h′ .base .0) (one .arena) (two .arena) (h′ .first .0) ks (holds b sb a h′ ks p) (holds e se a h′ ks q)
+      (sb .bytesStay c h m bytes) (se .bytesStay c h m bytes) (s .2 ∙ sym (t .2)) (λ i n. s .4 i n ∙ sym (t .4 i n))))
+
+pub determined : Determined
+determined b e sb se =
+    record {
+      after = λ c h m f bytes. after-same b e sb se c h m f bytes;
+      rows = λ c h m r. rows-same b e sb se h m r c;
+      readings = reading-same b e (sb .readersDo) (se .readersDo);
+      numbers = answer-same b e sb se;
+      unopened = unopened-same b e (sb .unopenedIs) (se .unopenedIs);
+    }

@@ -318,7 +318,7 @@ pub record Statements (b : Behaviour) : Type 0 where
 pub record Same (b e : Behaviour) : Type 0 where
   pub after :
       (c : Call) (h : Heap) (m : List ℕ) → Fits c → ((i : ℕ) → getD m i 0 < 256) → b .after c h m ≡ e .after c h m
-  pub rows : (c : Call) (h : Heap) (m : List ℕ) (r : Rows) → Fits c → b .rowsAfter c h m r ≡ e .rowsAfter c h m r
+  pub rows : (c : Call) (h : Heap) (m : List ℕ) (r : Rows) → b .rowsAfter c h m r ≡ e .rowsAfter c h m r
   pub readings : (x : Reader) (h : Heap) → b .reading x h ≡ e .reading x h
   pub numbers : (a : Answer) → b .answerNumbers a ≡ e .answerNumbers a
   pub unopened : b .unopened ≡ e .unopened
@@ -401,6 +401,7 @@ NothingLoose = (a : After) (d e : Done) (m w : List ℕ) → Is a d m → Is a e
 
 pub record Demands : Type 0 where
   pub calls : Statements ours
+  pub determined : Determined
   pub followsFromCalls : FollowsFromCalls
   pub sideBySide : SideBySide
   pub neverUnsound : NeverUnsound
