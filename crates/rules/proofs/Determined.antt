@@ -16,12 +16,12 @@ use Rattle.rules.specs.Outcome.{After, Rows}
 use Rattle.rules.specs.InWords.{SoundNumbers, Hold}
 use Rattle.rules.specs.Runs.{Fits, Reader}
 use Rattle.rules.specs.Behaviour.{Behaviour}
-use Rattle.rules.specs.Demands.{RefusalNumbers, AnswerNumbers, UnopenedIs, Reads, ReadersDo, Statements, Determined}
-use Rattle.rules.proofs.Cases.{by-eq}
+use Rattle.rules.specs.Statements.{SoundMeans, RefusalNumbers, AnswerNumbers, UnopenedIs, Reads, ReadersDo, Statements, Determined}
+use Rattle.rules.proofs.Cases.{by-eq, iff}
 use Rattle.rules.proofs.Words.{Bytes}
 use Rattle.rules.proofs.OneMemory.{one-memory}
 use Rattle.rules.proofs.OneRow.{one-row}
-use Rattle.rules.proofs.Verdict.{entry}
+use Rattle.rules.proofs.Verdict.{same-holes, entry}
 use Rattle.rules.proofs.Settles.{settled}
 
 -- ---- numbers
@@ -63,6 +63,9 @@ module _ (b e : Behaviour) where
       let unread : SoundNumbers h × (h .used ≤ h .top .0 - h .bottom .0) → ⊥ =
       λ s. n (reads-same (p h .0 (s .0) (s .1)) (q h .0 (s .0) (s .1)) x) in
       absurd (n (reads-same (p h .1 unread) (q h .1 unread) x)))
+
+  sound-same : SoundMeans b → SoundMeans e → (h : Heap) (ks : List Hole) → b .sound h ks ≡ e .sound h ks
+  sound-same p q h ks = iff (λ t. q h ks .1 (p h ks .0 t)) (λ t. p h ks .1 (q h ks .0 t))
 
   unopened-same : UnopenedIs b → UnopenedIs e → b .unopened ≡ e .unopened
   unopened-same p q =
@@ -158,9 +161,12 @@ module _ (b e : Behaviour) (sb : Statements b) (se : Statements e) (c : Call) (h
 pub determined : Determined
 determined b e sb se =
     record {
+      unopened = unopened-same b e (sb .unopenedIs) (se .unopenedIs);
+      sound = sound-same b e (sb .soundMeans) (se .soundMeans);
+      holes = λ h m s. sym (same-holes b e sb se h m s);
+      outcome = λ c h m f. settled b e sb se h m c f;
       after = λ c h m f bytes. after-same b e sb se c h m f bytes;
       rows = λ c h m r. rows-same b e sb se h m r c;
       readings = reading-same b e (sb .readersDo) (se .readersDo);
       numbers = answer-same b e sb se;
-      unopened = unopened-same b e (sb .unopenedIs) (se .unopenedIs);
     }

@@ -20,7 +20,7 @@ use Rattle.rules.specs.Free.{freed}
 use Rattle.rules.specs.Calls.{free, extend, renewed, given, grown, gathered, extended, accepted}
 use Rattle.rules.specs.Refusals.{unless, refusal8}
 use Rattle.rules.specs.Behaviour.{ours, Good}
-use Rattle.rules.specs.Demands.{Joined, FreeDoes, ExtendGathers, ExtendGrows}
+use Rattle.rules.specs.Statements.{Joined, FreeDoes, ExtendGathers, ExtendGrows}
 use Rattle.rules.proofs.Cases.{cases}
 use Rattle.rules.proofs.Multiples.{below-is}
 use Rattle.rules.proofs.Powers.{power-pos, grain-power}

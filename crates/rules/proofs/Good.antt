@@ -21,7 +21,7 @@ use Rattle.rules.specs.Refusals.{refusal6, unless}
 use Rattle.rules.specs.Outcome.{outcome}
 use Rattle.rules.specs.InWords.{Valid}
 use Rattle.rules.specs.Behaviour.{ours, Good}
-use Rattle.rules.specs.Demands.{Becomes}
+use Rattle.rules.specs.Statements.{Becomes}
 use Rattle.rules.proofs.Powers.{power-one}
 use Rattle.rules.proofs.Walk.{sound-fair, sound-count}
 use Rattle.rules.proofs.Rises.{Rises, sound-rises}

@@ -18,7 +18,7 @@ use Rattle.rules.specs.Calls.{Outcome, refused, told, done}
 use Rattle.rules.specs.Outcome.{outcome, leaves, after}
 use Rattle.rules.specs.InWords.{number, Hold}
 use Rattle.rules.specs.Behaviour.{ours}
-use Rattle.rules.specs.Demands.{UnopenedIs, HolesMean, BytesStay}
+use Rattle.rules.specs.Statements.{UnopenedIs, HolesMean, BytesStay}
 use Rattle.rules.proofs.Cases.{by-eq}
 use Rattle.rules.proofs.Words.{Bytes}
 use Rattle.rules.proofs.Lists.{from-none, from-step, putHeads-bytes}

@@ -52,6 +52,8 @@ pub mod FreedWalk
 pub mod FreeKept
 pub mod SoundKept
 pub mod MemoryWords
+-- all that is said of the calls
+pub mod Statements
 -- demand 3: runs
 pub mod RunLaws
 -- demand 3: held blocks

@@ -15,7 +15,7 @@ use Rattle.rules.specs.Refusals.{unless}
 use Rattle.rules.specs.Outcome.{outcome}
 use Rattle.rules.specs.InWords.{Valid}
 use Rattle.rules.specs.Behaviour.{ours, Good}
-use Rattle.rules.specs.Demands.{Granted, Demand2}
+use Rattle.rules.specs.Statements.{Granted, Demand2}
 use Rattle.rules.proofs.Powers.{power-pos}
 use Rattle.rules.proofs.Used.{find-splits, used-rises}
 use Rattle.rules.proofs.SoundWords.{rounds-rounded}

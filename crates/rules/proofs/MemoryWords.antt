@@ -16,7 +16,7 @@ use Rattle.rules.specs.Calls.{Call, done}
 use Rattle.rules.specs.Outcome.{outcome, leaves, after}
 use Rattle.rules.specs.InWords.{Within}
 use Rattle.rules.specs.Behaviour.{ours}
-use Rattle.rules.specs.Demands.{Memory}
+use Rattle.rules.specs.Statements.{Memory}
 use Rattle.rules.proofs.Cases.{by-le}
 use Rattle.rules.proofs.Walk.{sound-count}
 use Rattle.rules.proofs.Rises.{sound-rises}

@@ -2,7 +2,7 @@
 use mathlib.Core.Path.{refl}
 use Rattle.rules.specs.Answers.{answerNumbers, refusalNumbers}
 use Rattle.rules.specs.Behaviour.{ours}
-use Rattle.rules.specs.Demands.{RefusalNumbers, AnswerNumbers}
+use Rattle.rules.specs.Statements.{RefusalNumbers, AnswerNumbers}
 
 pub refusal-numbers : RefusalNumbers ours
 unfolding answerNumbers refusalNumbers

@@ -6,7 +6,7 @@ use native.Mathlib.Omega.{arith}
 use Rattle.rules.specs.declared.Hole.{Hole}
 use Rattle.rules.specs.declared.Heap.{Heap}
 use Rattle.rules.specs.Kinds.{addr, place}
-use Rattle.rules.specs.Demands.{Becomes}
+use Rattle.rules.specs.Statements.{Becomes}
 
 module _ {t p u : ℕ} {h₁ h₂ : Heap} where
   first-one : (h : Heap) (ks : List Hole) → Becomes h ks t p u h₁ → Becomes h ks t p u h₂ → h₁ .first .0 ≡ h₂ .first .0

@@ -8,7 +8,7 @@ use lib.Seq.{ext-getD, split-at}
 use Rattle.rules.specs.declared.Hole.{Hole}
 use Rattle.rules.specs.Kinds.{addr}
 use Rattle.rules.specs.Holes.{hole}
-use Rattle.rules.specs.Demands.{Largest, rowAt}
+use Rattle.rules.specs.Statements.{Largest, rowAt}
 use Rattle.rules.proofs.Cases.{by-le}
 
 pub one-row : (f : Hole → ℕ) (ks : List Hole) (n : ℕ) (row row₁ row₂ : List ℕ) → rowAt f ks n row row₁ → rowAt f ks n row row₂

@@ -18,7 +18,7 @@ use Rattle.rules.specs.Calls.{left, onlyHole, opened, accepted}
 use Rattle.rules.specs.Refusals.{refusal1, tests, unless}
 use Rattle.rules.specs.Outcome.{decided, outcome}
 use Rattle.rules.specs.Behaviour.{ours}
-use Rattle.rules.specs.Demands.{OpenDoes}
+use Rattle.rules.specs.Statements.{OpenDoes}
 use Rattle.rules.proofs.Cases.{cases, both, any-each, each-all}
 use Rattle.rules.proofs.Walk.{Fair}
 use Rattle.rules.proofs.SoundWords.{left-is, words-gap}

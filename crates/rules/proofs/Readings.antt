@@ -11,7 +11,7 @@ use Rattle.rules.specs.Readers.{unreadable, readAddr, readNumber}
 use Rattle.rules.specs.Runs.{reading}
 use Rattle.rules.specs.InWords.{SoundNumbers}
 use Rattle.rules.specs.Behaviour.{ours}
-use Rattle.rules.specs.Demands.{Reads, ReadersDo}
+use Rattle.rules.specs.Statements.{Reads, ReadersDo}
 use Rattle.rules.proofs.Cases.{cases, any-each}
 use Rattle.rules.proofs.SoundWords.{numbers-words, words-numbers}
 

@@ -23,7 +23,7 @@ use Rattle.rules.specs.Refusals.{onePower, refusal6, refusal8, refusal9,
 use Rattle.rules.specs.Outcome.{decided, outcome}
 use Rattle.rules.specs.InWords.{Rounds, RoomAt, NoLayout, NoSpan}
 use Rattle.rules.specs.Behaviour.{ours}
-use Rattle.rules.specs.Demands.{Row, Decides, refusalsOf, RefusalsExactly}
+use Rattle.rules.specs.Statements.{Row, Decides, refusalsOf, RefusalsExactly}
 use Rattle.rules.proofs.Cases.{cases, by-test, or-left, any-each}
 use Rattle.rules.proofs.SoundWords.{rounded-rounds, rounds-rounded, sound-words, sound-means}
 use Rattle.rules.proofs.TestWords.{Means, means-eq, means-lt, means-not, means-last, means-rounds, means-power, no-start, no-layout, no-span}

@@ -13,7 +13,7 @@ use Rattle.rules.specs.Calls.{list, room, accepted}
 use Rattle.rules.specs.Refusals.{unless}
 use Rattle.rules.specs.Outcome.{over, inRows, leavesRows, rowsAfter}
 use Rattle.rules.specs.Behaviour.{ours}
-use Rattle.rules.specs.Demands.{Largest, RoomDoes, ListDoes}
+use Rattle.rules.specs.Statements.{Largest, RoomDoes, ListDoes}
 use Rattle.rules.proofs.Good.{good-outcome}
 use Rattle.rules.proofs.Cases.{by-le}
 

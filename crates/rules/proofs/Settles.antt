@@ -22,7 +22,7 @@ use Rattle.rules.specs.Outcome.{Rows}
 use Rattle.rules.specs.InWords.{SoundHoles, Sound, Valid, RoomAt, Vacant, Within, NoStart, NoLayout, NoSpan}
 use Rattle.rules.specs.Runs.{Fits}
 use Rattle.rules.specs.Behaviour.{Behaviour, Good}
-use Rattle.rules.specs.Demands.{Granted, Joined, Statements}
+use Rattle.rules.specs.Statements.{Granted, Joined, Statements}
 use Rattle.rules.proofs.Cases.{cases, by-eq, by-le, apart}
 use Rattle.rules.proofs.Multiples.{down-is}
 use Rattle.rules.proofs.Powers.{power-pos, grain-power}

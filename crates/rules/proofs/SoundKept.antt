@@ -23,7 +23,7 @@ use Rattle.rules.specs.Refusals.{refusal4, refusal5, refusal8, onePower,
 use Rattle.rules.specs.Outcome.{decided, outcome}
 use Rattle.rules.specs.Runs.{Fits}
 use Rattle.rules.specs.Behaviour.{ours}
-use Rattle.rules.specs.Demands.{SoundKept}
+use Rattle.rules.specs.Statements.{SoundKept}
 use Rattle.rules.proofs.Cases.{by-test, and-left, and-right, or-left}
 use Rattle.rules.proofs.Powers.{one-power}
 use Rattle.rules.proofs.Layouts.{rounded-multiple, rounded-least}

@@ -20,7 +20,7 @@ use Rattle.rules.specs.Allocate.{rounded}
 use Rattle.rules.specs.Calls.{left, onlyHole}
 use Rattle.rules.specs.InWords.{Gap, endOf, sum, SoundNumbers, SoundHole, SoundHoles, Sound, Rounds, Left}
 use Rattle.rules.specs.Behaviour.{ours}
-use Rattle.rules.specs.Demands.{SoundMeans}
+use Rattle.rules.specs.Statements.{SoundMeans}
 use Rattle.rules.proofs.Cases.{cases, and-left, and-right, both, last, all-each, each-all}
 use Rattle.rules.proofs.Multiples.{up-is, above-is, down-is, below-is}
 use Rattle.rules.proofs.Powers.{power-pos, grain-power}

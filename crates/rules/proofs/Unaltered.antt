@@ -17,7 +17,8 @@ use Rattle.rules.specs.Calls.{Call, opening, allocate, free, extend, lis
 use Rattle.rules.specs.Refusals.{Test, tests, unless}
 use Rattle.rules.specs.Outcome.{decided, outcome, leaves, after, Rows, over, inRows, leavesRows, rowsAfter}
 use Rattle.rules.specs.Behaviour.{ours}
-use Rattle.rules.specs.Demands.{RefusalsKeep, TellsOnly, OtherRows, NothingLoose}
+use Rattle.rules.specs.Statements.{RefusalsKeep, TellsOnly, OtherRows}
+use Rattle.rules.specs.Demands.{NothingLoose}
 use Rattle.rules.proofs.Cases.{by-test}
 
 pub refusals-keep : RefusalsKeep ours

@@ -11,7 +11,7 @@ use Rattle.rules.specs.declared.Refusal.the-variants.{Unopened, OtherLen
 use Rattle.rules.specs.Calls.{list, Outcome, refused}
 use Rattle.rules.specs.InWords.{Sound}
 use Rattle.rules.specs.Behaviour.{Behaviour, Good}
-use Rattle.rules.specs.Demands.{Row, refusalsOf, Statements}
+use Rattle.rules.specs.Statements.{Row, refusalsOf, Statements}
 use Rattle.rules.proofs.Cases.{cases, by-eq, apart}
 
 -- the first of the rows that holds refuses; where none does, D holds

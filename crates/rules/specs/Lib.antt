@@ -25,8 +25,9 @@ pub mod LeftOut
 -- the demands: the paper's words as statements
 pub mod InWords
 pub mod Runs
--- what a box does, as one value
+-- what a box does, as one value, and what is said of it call by call
 pub mod Behaviour
+pub mod Statements
 -- that their premises can be met
 pub mod Premises
 pub mod Demands

@@ -1,0 +1,325 @@
+-- The statements of the calls, one by one, each under the paper's sentence or the user's: of any behaviour b. Ours meets them
+-- (proofs/Statements.antt), and two that meet them do the same.
+use mathlib.Core.Path.{_≡_}
+use mathlib.Core.Bool.{true, cond}
+use mathlib.Core.List.{List, [], _∷_, _++_, List·Memᴰ}
+use mathlib.Core.Logic.{_⊎_}
+use Prim.Native.Nat.{ℕ, _+_, _-_, _/_, _^_, _≤_, _<_, min}
+use lib.Dec.{eqb}
+use lib.ListN.{length, getD}
+use Rattle.rules.specs.declared.Addr.{Addr}
+use Rattle.rules.specs.declared.Hole.{Hole}
+use Rattle.rules.specs.declared.Heap.{Heap}
+use Rattle.rules.specs.declared.Refusal.{Refusal}
+use Rattle.rules.specs.declared.Refusal.the-variants.{BadOpening, Opened, Unopened, OtherLength, NotSound, BadLayout, NoRoom, BadSpan, PastArena}
+use Rattle.rules.specs.declared.Answer.{Answer}
+use Rattle.rules.specs.declared.Answer.the-variants.{Opening, Allocated, Freed, Extended, Listed, Room, Refused}
+use Rattle.rules.specs.Round.{Below}
+use Rattle.rules.specs.Kinds.{addr, place}
+use Rattle.rules.specs.Holes.{hole}
+use Rattle.rules.specs.Calls.{Call, opening, allocate, free, extend, list, room, Outcome, refused, told, done}
+use Rattle.rules.specs.Answers.{numbers}
+use Rattle.rules.specs.Outcome.{Rows}
+use Rattle.rules.specs.InWords.{Valid, endOf, SoundNumbers, Sound, Hold, Rounds, Lies, RoomAt, Within, Vacant, Left, NoStart, NoLayout, NoSpan}
+use Rattle.rules.specs.Runs.{Fits, Reader}
+use Rattle.rules.specs.Behaviour.{Behaviour, Good}
+
+-- ---- "A heap is sound if": the test that the calls make is the paper's rule
+
+abbrev pub SoundMeans : Behaviour → Type 0
+SoundMeans b = (h : Heap) (ks : List Hole) → (b .sound h ks ≡ true → Sound h ks) × (Sound h ks → b .sound h ks ≡ true)
+
+-- ---- "Unopened: bottom is 0 and so is the rest."
+
+pub record UnopenedIs (b : Behaviour) : Type 0 where
+  pub base : b .unopened .base .0 ≡ 0
+  pub len : b .unopened .len ≡ 0
+  pub bottom : b .unopened .bottom .0 ≡ 0
+  pub top : b .unopened .top .0 ≡ 0
+  pub first : b .unopened .first .0 ≡ 0
+  pub pending : b .unopened .pending ≡ 0
+  pub used : b .unopened .used ≡ 0
+
+-- ---- "Its first 16 bytes are its head: size, then the place of the next head [..], each 8 bytes, low byte first; all ones in the second
+-- means none": sound holes are those of a heap exactly if its heads hold them
+
+abbrev pub HolesMean : Behaviour → Type 0
+HolesMean b =
+    (h : Heap) (m : List ℕ)
+    → ((ks : List Hole) → Sound h ks → Hold (h .base .0) m (h .first .0) ks → b .holes h m ≡ ks)
+    × (Sound h (b .holes h m) → Hold (h .base .0) m (h .first .0) (b .holes h m))
+
+-- ---- demand 1: "Whatever numbers and memory a call is lent, it ends with an answer. Every entry tests its own input. A refusal carries
+-- its number from the build rules and alters neither heap nor memory."
+
+-- a refusal, and what it is given for
+pub record Row : Type 1 where
+  pub gives : Refusal
+  pub «exactly-if» : Type 0
+
+-- the first row that holds refuses; where none does, the call is not refused
+abbrev pub Decides : List Row → Outcome → Type 0
+Decides [] o = (r : Refusal) → o ≡ refused r → ⊥
+Decides (t ∷ ts) o = (t .«exactly-if» → o ≡ refused (t .gives)) × ((t .«exactly-if» → ⊥) → Decides ts o)
+
+abbrev pub row : Refusal → Type 0 → Row
+row r t = record { gives = r; «exactly-if» = t }
+
+-- the table of refusals, for each call in the order of its tests
+abbrev openedRows : Behaviour → Heap → List ℕ → List Row
+openedRows b h m =
+    row Unopened (h .bottom .0 ≡ 0)
+    ∷ row OtherLength (length m ≡ h .len → ⊥)
+    ∷ row NotSound (Sound h (b .holes h m) → ⊥)
+    ∷ []
+
+abbrev pub refusalsOf : Behaviour → Call → Heap → List ℕ → List Row
+refusalsOf b (opening base named) h m =
+    row Opened (h .bottom .0 ≡ 0 → ⊥) ∷ row BadOpening (NoStart (length m) (base .0) named) ∷ []
+refusalsOf b (allocate s align) h m =
+    openedRows b h m
+    ++ (row BadLayout (NoLayout s align)
+    ∷ row (NoRoom (length (b .holes h m))) ((r : ℕ) → Rounds s r → (x : ℕ) → RoomAt r align (b .holes h m) x → ⊥)
+    ∷ [])
+refusalsOf b (free x s align) h m =
+    openedRows b h m
+    ++ (row BadLayout (NoLayout s align)
+    ∷ row BadSpan ((r : ℕ) × Rounds s r × NoSpan h (b .holes h m) (x .0) r align)
+    ∷ [])
+refusalsOf b (extend by) h m =
+    openedRows b h m ++ (row PastArena (h .base .0 + h .len < h .top .0 + h .pending + by) ∷ [])
+refusalsOf b list h m = openedRows b h m
+refusalsOf b room h m = openedRows b h m
+
+abbrev pub RefusalsExactly : Behaviour → Type 0
+RefusalsExactly b = (c : Call) (h : Heap) (m : List ℕ) → Fits c → Decides (refusalsOf b c h m) (b .outcome c h m)
+
+-- a refusal alters nothing
+abbrev pub RefusalsKeep : Behaviour → Type 0
+RefusalsKeep b =
+    (c : Call) (h : Heap) (m : List ℕ) (rows : Rows) (r : Refusal) → b .outcome c h m ≡ refused r
+    → (b .after c h m .answer ≡ Refused r) × (b .after c h m .heap ≡ h) × (b .after c h m .arena ≡ m) × (b .rowsAfter c h m rows ≡ rows)
+
+-- and carries its number and zeros, 7 its count
+pub record RefusalNumbers (b : Behaviour) : Type 0 where
+  pub one : b .answerNumbers (Refused BadOpening) ≡ numbers 1 0 0
+  pub two : b .answerNumbers (Refused Opened) ≡ numbers 2 0 0
+  pub three : b .answerNumbers (Refused Unopened) ≡ numbers 3 0 0
+  pub four : b .answerNumbers (Refused OtherLength) ≡ numbers 4 0 0
+  pub five : b .answerNumbers (Refused NotSound) ≡ numbers 5 0 0
+  pub six : b .answerNumbers (Refused BadLayout) ≡ numbers 6 0 0
+  pub seven : (n : ℕ) → b .answerNumbers (Refused (NoRoom n)) ≡ numbers 7 0 n
+  pub eight : b .answerNumbers (Refused BadSpan) ≡ numbers 8 0 0
+  pub nine : b .answerNumbers (Refused PastArena) ≡ numbers 9 0 0
+
+-- an accepted call's number is 0, with its two values
+pub record AnswerNumbers (b : Behaviour) : Type 0 where
+  pub opens : (a : Addr) (n : ℕ) → b .answerNumbers (Opening a n) ≡ numbers 0 (a .0) n
+  pub allocates : (a : Addr) (n : ℕ) → b .answerNumbers (Allocated a n) ≡ numbers 0 (a .0) n
+  pub frees : (x y : ℕ) → b .answerNumbers (Freed x y) ≡ numbers 0 x y
+  pub extends : (x y : ℕ) → b .answerNumbers (Extended x y) ≡ numbers 0 x y
+  pub lists : (x y : ℕ) → b .answerNumbers (Listed x y) ≡ numbers 0 x y
+  pub reports : (x y : ℕ) → b .answerNumbers (Room x y) ≡ numbers 0 x y
+
+-- ---- demand 2: "a request gets the lowest address, a multiple of its alignment, where its rounded size lies in one hole and leaves 0 or
+-- at least 16 bytes on each side; it is refused for room exactly when there is none."
+
+-- what stays of a hole from lo to hi
+abbrev pub piece : ℕ → ℕ → List Hole
+piece lo hi = cond (eqb lo hi) [] (hole (addr lo) (hi - lo) ∷ [])
+
+-- a heap's numbers, with a new top, pending and used; its first place is that of the first hole
+pub record Becomes (h : Heap) (ks : List Hole) (top pending used : ℕ) (h′ : Heap) : Type 0 where
+  pub base : h′ .base ≡ h .base
+  pub len : h′ .len ≡ h .len
+  pub bottom : h′ .bottom ≡ h .bottom
+  pub newTop : h′ .top .0 ≡ top
+  pub newPending : h′ .pending ≡ pending
+  pub newUsed : h′ .used ≡ used
+  pub none : ks ≡ [] → h′ .first .0 ≡ 2 ^ 64 - 1
+  pub first : (k : Hole) (back : List Hole) → ks ≡ k ∷ back → h .base .0 + h′ .first .0 ≡ k .addr .0
+
+pub record Granted (r align : ℕ) (h : Heap) (ks : List Hole) (o : Outcome) : Type 0 where
+  pub at : ℕ
+  pub front : List Hole
+  pub used : Hole
+  pub back : List Hole
+  pub heap : Heap
+  pub new : List Hole
+  pub one : ks ≡ front ++ (used ∷ back)
+  pub lies : Lies r align used at
+  pub lowest : (x : ℕ) → RoomAt r align ks x → at ≤ x
+  -- the count is the used hole's place in the list, and at most (size + 16) / 32
+  pub answer : o ≡ done (Allocated (addr at) (length front + 1)) heap new
+  pub few : length front + 1 ≤ (h .top .0 - h .bottom .0 + 16) / 32
+  pub split : new ≡ front ++ (piece (used .addr .0) at ++ (piece (at + r) (endOf used) ++ back))
+  pub becomes : Becomes h new (h .top .0) (h .pending) (h .used + r) heap
+
+abbrev pub Demand2 : Behaviour → Type 0
+Demand2 b =
+    (h : Heap) (m : List ℕ) (s align r : ℕ) → Good b h m → Valid s align r
+    → (((x : ℕ) × RoomAt r align (b .holes h m) x) → Granted r align h (b .holes h m) (b .outcome (allocate s align) h m))
+    × (((x : ℕ) → RoomAt r align (b .holes h m) x → ⊥) → b .outcome (allocate s align) h m ≡ refused (NoRoom (length (b .holes h m))))
+
+-- ---- the other calls
+
+abbrev pub OpenDoes : Behaviour → Type 0
+OpenDoes b =
+    (h : Heap) (m : List ℕ) (base named bottom s : ℕ) → h .bottom .0 ≡ 0 → (NoStart (length m) base named → ⊥) → Left base named bottom s
+    → b .outcome (opening (addr base) named) h m
+    ≡ done (Opening (addr bottom) s)
+    (record {
+      base = addr base;
+      len = length m;
+      bottom = addr bottom;
+      top = addr (bottom + s);
+      first = place (bottom - base);
+      pending = named - (bottom - base) - s;
+      used = 0;
+    })
+    (hole (addr bottom) s ∷ [])
+
+-- the holes are the old ones and a span, joined: what is free is what was and the span, and no two holes touch
+pub record Joined (h : Heap) (ks : List Hole) (x s : ℕ) (top pending used : ℕ) (h′ : Heap) (new : List Hole) : Type 0 where
+  pub vacant : (y : ℕ) → Vacant new y → Vacant ks y ⊎ Within x s y
+  pub stays : (y : ℕ) → Vacant ks y → Vacant new y
+  pub becomes-free : (y : ℕ) → Within x s y → Vacant new y
+  pub sound : Sound h′ new
+  pub becomes : Becomes h new top pending used h′
+
+abbrev pub FreeDoes : Behaviour → Type 0
+FreeDoes b =
+    (h : Heap) (m : List ℕ) (x : Addr) (s align r : ℕ) → Good b h m → Valid s align r → (NoSpan h (b .holes h m) (x .0) r align → ⊥)
+    → (h′ : Heap) × (new : List Hole)
+    × (b .outcome (free x s align) h m ≡ done (Freed r (h .used - r)) h′ new)
+    × (r ≤ h .used)
+    × Joined h (b .holes h m) (x .0) r (h .top .0) (h .pending) (h .used - r) h′ new
+
+abbrev pub ExtendGathers : Behaviour → Type 0
+ExtendGathers b =
+    (h : Heap) (m : List ℕ) (by : ℕ) → Good b h m → h .top .0 + h .pending + by ≤ h .base .0 + h .len → h .pending + by < 16
+    → (h′ : Heap)
+    × (b .outcome (extend by) h m ≡ done (Extended (h .top .0 - h .bottom .0) (h .pending + by)) h′ (b .holes h m))
+    × Becomes h (b .holes h m) (h .top .0) (h .pending + by) (h .used) h′
+
+abbrev pub ExtendGrows : Behaviour → Type 0
+ExtendGrows b =
+    (h : Heap) (m : List ℕ) (by s : ℕ) → Good b h m → h .top .0 + h .pending + by ≤ h .base .0 + h .len → 16 ≤ h .pending + by
+    → Below 8 (h .pending + by) s
+    → (h′ : Heap) × (new : List Hole)
+    × (b .outcome (extend by) h m ≡ done (Extended (h .top .0 + s - h .bottom .0) (h .pending + by - s)) h′ new)
+    × Joined h (b .holes h m) (h .top .0) s (h .top .0 + s) (h .pending + by - s) (h .used) h′ new
+
+-- n is the size of the largest hole, 0 if none
+pub record Largest (ks : List Hole) (n : ℕ) : Type 0 where
+  pub most : (k : Hole) → List·Memᴰ k ks → k .size ≤ n
+  pub one : (ks ≡ [] → n ≡ 0) × ((ks ≡ [] → ⊥) → (k : Hole) × List·Memᴰ k ks × (k .size ≡ n))
+
+abbrev pub RoomDoes : Behaviour → Type 0
+RoomDoes b =
+    (h : Heap) (m : List ℕ) → Good b h m
+    → (n : ℕ) × Largest (b .holes h m) n × (b .outcome room h m ≡ told (Room n (length (b .holes h m))) [])
+
+-- the i-th number of a row: of the i-th hole, as far as the shorter row holds; else what stood there
+abbrev pub rowAt : (Hole → ℕ) → List Hole → ℕ → List ℕ → List ℕ → Type 0
+rowAt f ks n row row′ =
+    (length row′ ≡ length row)
+    × ((front back : List Hole) (k : Hole) → ks ≡ front ++ (k ∷ back) → length front < n → getD row′ (length front) 0 ≡ f k)
+    × ((i : ℕ) → min n (length ks) ≤ i → getD row′ i 0 ≡ getD row i 0)
+
+abbrev pub ListDoes : Behaviour → Type 0
+ListDoes b =
+    (h : Heap) (m : List ℕ) (r : Rows) → Good b h m
+    → (b .outcome list h m ≡ told (Listed (length (b .holes h m)) (h .top .0 - h .bottom .0 - h .used)) (b .holes h m))
+    × rowAt (λ k. k .addr .0) (b .holes h m) (min (length (r .addrs)) (length (r .sizes))) (r .addrs) (b .rowsAfter list h m r .addrs)
+    × rowAt (λ k. k .size) (b .holes h m) (min (length (r .addrs)) (length (r .sizes))) (r .sizes) (b .rowsAfter list h m r .sizes)
+
+-- the rows of other calls stay
+abbrev pub OtherRows : Behaviour → Type 0
+OtherRows b = (c : Call) (h : Heap) (m : List ℕ) (r : Rows) → (c ≡ list → ⊥) → b .rowsAfter c h m r ≡ r
+
+pub record Reads (b : Behaviour) (h : Heap) (lo hi s u f : ℕ) : Type 0 where
+  pub bottom : b .reading Reader.bottom h ≡ lo
+  pub top : b .reading Reader.top h ≡ hi
+  pub size : b .reading Reader.size h ≡ s
+  pub used : b .reading Reader.used h ≡ u
+  pub freeBytes : b .reading Reader.freeBytes h ≡ f
+
+abbrev pub ReadersDo : Behaviour → Type 0
+ReadersDo b =
+    (h : Heap)
+    → (SoundNumbers h
+    → h .used ≤ h .top .0 - h .bottom .0
+    → Reads b h (h .bottom .0) (h .top .0 + h .pending) (h .top .0 - h .bottom .0) (h .used) (h .top .0 - h .bottom .0 - h .used))
+    × ((SoundNumbers h × (h .used ≤ h .top .0 - h .bottom .0) → ⊥) → Reads b h 0 0 0 0 0)
+
+-- ---- "After an accepted call each head holds its hole's numbers. Every byte that lies in no head of the new list is what it was before."
+
+abbrev pub Memory : Behaviour → Type 0
+Memory b =
+    (c : Call) (h : Heap) (m : List ℕ) (a : Answer) (h′ : Heap) (ks : List Hole) → Fits c → b .outcome c h m ≡ done a h′ ks
+    → (b .after c h m .answer ≡ a)
+    × (b .after c h m .heap ≡ h′)
+    × (length (b .after c h m .arena) ≡ length m)
+    × (b .holes h′ (b .after c h m .arena) ≡ ks)
+    × ((i : ℕ)
+    → ((k : Hole) → List·Memᴰ k ks → Within (k .addr .0 - h′ .base .0) 16 i → ⊥)
+    → getD (b .after c h m .arena) i 0 ≡ getD m i 0)
+
+-- what is written are bytes
+abbrev pub BytesStay : Behaviour → Type 0
+BytesStay b =
+    (c : Call) (h : Heap) (m : List ℕ) → ((i : ℕ) → getD m i 0 < 256) → (i : ℕ) → getD (b .after c h m .arena) i 0 < 256
+
+-- a call that only tells changes nothing
+abbrev pub TellsOnly : Behaviour → Type 0
+TellsOnly b =
+    (c : Call) (h : Heap) (m : List ℕ) (a : Answer) (ks : List Hole) → b .outcome c h m ≡ told a ks
+    → (b .after c h m .answer ≡ a) × (b .after c h m .heap ≡ h) × (b .after c h m .arena ≡ m)
+
+-- ---- soundness is kept
+
+abbrev pub SoundKept : Behaviour → Type 0
+SoundKept b =
+    (c : Call) (h : Heap) (m : List ℕ) (a : Answer) (h′ : Heap) (ks : List Hole) → Fits c → b .outcome c h m ≡ done a h′ ks
+    → Sound h′ ks × (length ks ≤ (h′ .top .0 - h′ .bottom .0 + 16) / 32)
+
+-- ---- all that is said of the calls, one by one
+
+pub record Statements (b : Behaviour) : Type 0 where
+  pub soundMeans : SoundMeans b
+  pub unopenedIs : UnopenedIs b
+  pub holesMean : HolesMean b
+  pub refusalsExactly : RefusalsExactly b
+  pub refusalsKeep : RefusalsKeep b
+  pub refusalNumbers : RefusalNumbers b
+  pub answerNumbers : AnswerNumbers b
+  pub demand2 : Demand2 b
+  pub openDoes : OpenDoes b
+  pub freeDoes : FreeDoes b
+  pub extendGathers : ExtendGathers b
+  pub extendGrows : ExtendGrows b
+  pub roomDoes : RoomDoes b
+  pub listDoes : ListDoes b
+  pub otherRows : OtherRows b
+  pub readersDo : ReadersDo b
+  pub memory : Memory b
+  pub bytesStay : BytesStay b
+  pub tellsOnly : TellsOnly b
+  pub soundKept : SoundKept b
+
+-- ---- nothing more can be asked: two behaviours that meet the statements do the same, to the last byte
+
+pub record Same (b e : Behaviour) : Type 0 where
+  pub unopened : b .unopened ≡ e .unopened
+  pub sound : (h : Heap) (ks : List Hole) → b .sound h ks ≡ e .sound h ks
+  -- what an unsound heap's heads are read as is nowhere told
+  pub holes : (h : Heap) (m : List ℕ) → Sound h (b .holes h m) → b .holes h m ≡ e .holes h m
+  pub outcome : (c : Call) (h : Heap) (m : List ℕ) → Fits c → b .outcome c h m ≡ e .outcome c h m
+  pub after : (c : Call) (h : Heap) (m : List ℕ) → Fits c → ((i : ℕ) → getD m i 0 < 256) → b .after c h m ≡ e .after c h m
+  pub rows : (c : Call) (h : Heap) (m : List ℕ) (r : Rows) → b .rowsAfter c h m r ≡ e .rowsAfter c h m r
+  pub readings : (x : Reader) (h : Heap) → b .reading x h ≡ e .reading x h
+  pub numbers : (a : Answer) → b .answerNumbers a ≡ e .answerNumbers a
+
+abbrev pub Determined : Type 0
+Determined = (b e : Behaviour) → Statements b → Statements e → Same b e
