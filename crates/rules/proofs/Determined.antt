@@ -1,6 +1,6 @@
 -- Two behaviours that meet the statements do the same, to the last byte. Assumes nothing.
 use mathlib.Core.Path.{_≡_, refl, sym, _∙_}
-use mathlib.Core.List.{List, []}
+use mathlib.Core.List.{List}
 use Prim.Native.Nat.{ℕ, _-_, _≤_, min}
 use native.Mathlib.Omega.{arith}
 use lib.ListN.{length}
@@ -16,13 +16,13 @@ use Rattle.rules.specs.Outcome.{After, Rows}
 use Rattle.rules.specs.InWords.{SoundNumbers, Hold}
 use Rattle.rules.specs.Runs.{Fits, Reader}
 use Rattle.rules.specs.Behaviour.{Behaviour}
-use Rattle.rules.specs.Statements.{SoundMeans, RefusalNumbers, AnswerNumbers, UnopenedIs, Reads, ReadersDo, Statements, Determined}
+use Rattle.rules.specs.Statements.{SoundMeans, RefusalNumbers, UnopenedIs, Reads, ReadersDo, Statements, Determined}
 use Rattle.rules.proofs.Cases.{by-eq, iff}
 use Rattle.rules.proofs.Words.{Bytes}
 use Rattle.rules.proofs.OneMemory.{one-memory}
 use Rattle.rules.proofs.OneRow.{one-row}
 use Rattle.rules.proofs.Verdict.{same-holes, entry}
-use Rattle.rules.proofs.Settles.{settled}
+use Rattle.rules.proofs.Settles.{noRows, settled}
 
 -- ---- numbers
 
@@ -118,7 +118,7 @@ module _ (b e : Behaviour) (sb : Statements b) (se : Statements e) (h : Heap) (m
 -- ---- answer, heap and arena
 
 -- a call is refused, tells or does
-by-outcome : {X : Type 0} (o : Outcome) → ((r : Refusal) → o ≡ refused r → X) → ((a : Answer) (ks : List Hole) → o ≡ told a ks → X)
+pub by-outcome : {X : Type 0} (o : Outcome) → ((r : Refusal) → o ≡ refused r → X) → ((a : Answer) (ks : List Hole) → o ≡ told a ks → X)
     → ((a : Answer) (h : Heap) (ks : List Hole) → o ≡ done a h ks → X) → X
 by-outcome (refused r) f g k = f r refl
 by-outcome (told a ks) f g k = g a ks refl
@@ -140,11 +140,10 @@ module _ (b e : Behaviour) (sb : Statements b) (se : Statements e) (c : Call) (h
       let one = b .after c h m in
       let two = e .after c h m in
       let o = settled b e sb se h m c f in
-      let none : Rows = record { addrs = []; sizes = [] } in
       by-outcome (b .outcome c h m)
       (λ r p.
-      let s = sb .refusalsKeep c h m none r p in
-      let t = se .refusalsKeep c h m none r (sym o ∙ p) in
+      let s = sb .refusalsKeep c h m noRows r p in
+      let t = se .refusalsKeep c h m noRows r (sym o ∙ p) in
       after-is one two (s .0 ∙ sym (t .0)) (s .1 ∙ sym (t .1)) (s .2 ∙ sym (t .2)))
       (λ a ks p.
       let s = sb .tellsOnly c h m a ks p in

@@ -73,5 +73,9 @@ pub mod OneRow
 pub mod Verdict
 pub mod Settles
 pub mod Determined
+-- the frauds
+pub mod Caught
+pub mod Shown
+pub mod Frauds
 -- all of the demands
 pub mod Demands

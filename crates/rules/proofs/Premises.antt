@@ -33,7 +33,7 @@ use Rattle.rules.proofs.Played.{agree, headsAgree, keeps-kept, Move, mo
 -- ---- two boxes
 
 -- the memory at the start, all of one byte
-abbrev noise : ℕ → List ℕ
+abbrev pub noise : ℕ → List ℕ
 noise x = replicate 96 x
 
 noise-apart : (x y : ℕ) → (x ≡ y → ⊥) → (i : ℕ) → i < 96 → getD (noise x) i 0 ≡ getD (noise y) i 0 → ⊥
@@ -97,7 +97,7 @@ boxes =
 -- ---- a good heap
 
 -- 24 bytes free, 16 held at 0x1020, 24 free; 3 bytes pending, and 22 behind them
-abbrev half : Heap
+abbrev pub half : Heap
 half =
     record {
       base = addr 0x1001;
@@ -109,7 +109,7 @@ half =
       used = 16;
     }
 
-abbrev halves : List Hole
+abbrev pub halves : List Hole
 halves = hole (addr 0x1008) 24 ∷ hole (addr 0x1030) 24 ∷ []
 
 valid : (s align k : ℕ) → align ≡ 2 ^ k → align < 2 ^ 64 → rounded s + align ≤ 2 ^ 63 → Valid s align (rounded s)

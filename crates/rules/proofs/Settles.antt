@@ -1,9 +1,9 @@
 -- What comes of a call is settled by the statements: two behaviours that meet them come to the same, call by call. Assumes nothing.
-use mathlib.Core.Path.{_≡_, refl, sym, ap, _∙_}
+use mathlib.Core.Path.{_≡_, refl, sym, _∙_}
 use mathlib.Core.Bool.{Bool}
-use mathlib.Core.List.{List, [], _∷_, _++_, List·Memᴰ, List·Memᴰ·head, Memᴰ·append-right}
-use mathlib.Core.Logic.{_⊎_, inl, inr, ⊎-elim}
-use Prim.Native.Nat.{ℕ, _+_, _-_, _^_, _≤_, _<_}
+use mathlib.Core.List.{List, [], List·Memᴰ·head, Memᴰ·append-right}
+use mathlib.Core.Logic.{inl, inr, ⊎-elim}
+use Prim.Native.Nat.{ℕ, _+_, _^_, _≤_, _<_}
 use native.Mathlib.Omega.{arith}
 use lib.ListN.{length}
 use Rattle.rules.specs.declared.Addr.{Addr}
@@ -12,16 +12,12 @@ use Rattle.rules.specs.declared.Heap.{Heap}
 use Rattle.rules.specs.declared.Answer.{Answer}
 use Rattle.rules.specs.Fixed.{grain}
 use Rattle.rules.specs.Round.{Power, downTo}
-use Rattle.rules.specs.Tests.{any}
-use Rattle.rules.specs.Kinds.{addr}
-use Rattle.rules.specs.Holes.{hole}
 use Rattle.rules.specs.Allocate.{rounded, candidate, find}
-use Rattle.rules.specs.Calls.{Call, opening, allocate, free, extend, list, room, Outcome, told, done}
-use Rattle.rules.specs.Refusals.{refusal1, onePower, refusal6, refusal8}
+use Rattle.rules.specs.Calls.{Call, opening, allocate, free, extend, list, room, Outcome, done}
 use Rattle.rules.specs.Outcome.{Rows}
-use Rattle.rules.specs.InWords.{SoundHoles, Sound, Valid, RoomAt, Vacant, Within, NoStart, NoLayout, NoSpan}
+use Rattle.rules.specs.InWords.{SoundHoles, Valid, RoomAt, NoLayout}
 use Rattle.rules.specs.Runs.{Fits}
-use Rattle.rules.specs.Behaviour.{Behaviour, Good}
+use Rattle.rules.specs.Behaviour.{Behaviour}
 use Rattle.rules.specs.Statements.{Granted, Joined, Statements}
 use Rattle.rules.proofs.Cases.{cases, by-eq, by-le, apart}
 use Rattle.rules.proofs.Multiples.{down-is}
@@ -37,11 +33,11 @@ use Rattle.rules.proofs.Verdict.{entry}
 -- ---- what can be told apart
 
 -- a test decides what it means
-decide : {P X : Type 0} {t : Bool} → Means t P → (P → X) → ((P → ⊥) → X) → X
+pub decide : {P X : Type 0} {t : Bool} → Means t P → (P → X) → ((P → ⊥) → X) → X
 decide {t = t} m so else = cases t (λ e. so (m .0 e)) (λ e. else (λ p. apart (m .1 p) e))
 
 -- what is not refused for its layout is valid
-valid : (s align : ℕ) → align < 2 ^ 64 → (NoLayout s align → ⊥) → Valid s align (rounded s)
+pub valid : (s align : ℕ) → align < 2 ^ 64 → (NoLayout s align → ⊥) → Valid s align (rounded s)
 valid s align l n =
     record {
       fits = l;
@@ -51,7 +47,7 @@ valid s align l n =
     }
 
 -- there is room, or there is none
-by-room : {X : Type 0} (r align : ℕ) (h : Heap) (ks : List Hole) → Power align → SoundHoles h ks
+pub by-room : {X : Type 0} (r align : ℕ) (h : Heap) (ks : List Hole) → Power align → SoundHoles h ks
     → (((x : ℕ) × RoomAt r align ks x) → X) → (((x : ℕ) → RoomAt r align ks x → ⊥) → X) → X
 by-room r align h ks p s some none =
     by-found (find r align ks)
@@ -87,6 +83,9 @@ one-joined a h ks x s top pending used o p f g ls ns d e j k =
     (λ y v. ⊎-elim (j .stays y) (j .becomes-free y) (k .vacant y v)) in
     let heap : f ≡ g = one-heap (rw new at (j .becomes)) (k .becomes) in
     d ∙ rw (heap, new) (sym e)
+
+abbrev pub noRows : Rows
+noRows = record { addrs = []; sizes = [] }
 
 -- ---- call by call
 
@@ -172,8 +171,7 @@ module _ (b e : Behaviour) (sb : Statements b) (se : Statements e) (h : Heap) (m
       entry b e sb se h m
       (λ r p q. p _ _ (sb .refusalsExactly list h m tt) ∙ sym (q _ _ (se .refusalsExactly list h m tt)))
       (λ p q g j same.
-      let none : Rows = record { addrs = []; sizes = [] } in
-      sb .listDoes h m none g .0 ∙ sym ((rw same at (se .listDoes h m none j .0))))
+      sb .listDoes h m noRows g .0 ∙ sym ((rw same at (se .listDoes h m noRows j .0))))
 
   room-settled : b .outcome room h m ≡ e .outcome room h m
   room-settled =

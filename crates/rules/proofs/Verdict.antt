@@ -1,7 +1,6 @@
 -- Two behaviours that meet the statements refuse a call for the same, as far as its tests of 3, 4 and 5 go; where those pass both read the
 -- same holes. Assumes nothing.
 use mathlib.Core.Path.{_≡_, sym, subst}
-use mathlib.Core.Bool.{true, false}
 use mathlib.Core.List.{List, [], _∷_}
 use Prim.Native.Nat.{ℕ}
 use lib.ListN.{length}
@@ -15,7 +14,7 @@ use Rattle.rules.specs.Statements.{Row, refusalsOf, Statements}
 use Rattle.rules.proofs.Cases.{cases, by-eq, apart}
 
 -- the first of the rows that holds refuses; where none does, D holds
-abbrev Before : List Row → Type 0 → Outcome → Type 0
+abbrev pub Before : List Row → Type 0 → Outcome → Type 0
 Before [] D o = D
 Before (t ∷ ts) D o = (t .«exactly-if» → o ≡ refused (t .gives)) × ((t .«exactly-if» → ⊥) → Before ts D o)
 

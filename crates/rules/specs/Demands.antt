@@ -1,5 +1,5 @@
--- The demands: the statements of the calls, that they leave nothing open, and the statements of runs, each under the user's sentence.
--- Their proofs are held to these types in proofs/Demands.antt, whose one value of `Demands` the gate checks.
+-- The demands: the statements of the calls, that they leave nothing open and no room for a fraud, and the statements of runs, each under
+-- the user's sentence. Their proofs are held to these types in proofs/Demands.antt, whose one value of `Demands` the gate checks.
 use mathlib.Core.Path.{_≡_}
 use mathlib.Core.List.{List, [], _∷_, _++_, List·Memᴰ}
 use mathlib.Core.Logic.{_⊎_}
@@ -13,13 +13,14 @@ use Rattle.rules.specs.declared.Answer.the-variants.{Freed}
 use Rattle.rules.specs.Sound.{unopened, holes}
 use Rattle.rules.specs.Calls.{Call, free, refused, done}
 use Rattle.rules.specs.Outcome.{After, after, Is, Rows}
+use Rattle.rules.specs.Weighed.{Weighed}
+use Rattle.rules.specs.LeftOut.{Harmless}
 use Rattle.rules.specs.InWords.{Sound, Rounds, Within, Vacant}
 use Rattle.rules.specs.Runs.{Fits, Ask, calls, AllFit, Told, Kept, Run, Block, Box, start, comesTo, tells, ends, Honest}
 use Rattle.rules.specs.Behaviour.{ours}
-use Rattle.rules.specs.LeftOut.{Harmless}
-use Rattle.rules.specs.Weighed.{Weighed}
-use Rattle.rules.specs.Premises.{Met}
 use Rattle.rules.specs.Statements.{Statements, Determined}
+use Rattle.rules.specs.Frauds.{Frauds}
+use Rattle.rules.specs.Premises.{Met}
 
 -- ---- demand 3: "Take two boxes opened alike and given the same calls. Their memories may differ anywhere at the start, and between calls
 -- anyone may write any bytes save the first 16 of each hole. [..] both boxes give the same answers, counts and holes, those that follow
@@ -97,6 +98,7 @@ NothingLoose = (a : After) (d e : Done) (m w : List ℕ) → Is a d m → Is a e
 pub record Demands : Type 0 where
   pub calls : Statements ours
   pub determined : Determined
+  pub frauds : Frauds
   pub followsFromCalls : FollowsFromCalls
   pub sideBySide : SideBySide
   pub neverUnsound : NeverUnsound

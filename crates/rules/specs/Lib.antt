@@ -28,6 +28,8 @@ pub mod Runs
 -- what a box does, as one value, and what is said of it call by call
 pub mod Behaviour
 pub mod Statements
+-- the frauds that it shuts out
+pub mod Frauds
 -- that their premises can be met
 pub mod Premises
 pub mod Demands

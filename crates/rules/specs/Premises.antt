@@ -11,8 +11,8 @@ use Rattle.rules.specs.declared.Heap.{Heap}
 use Rattle.rules.specs.declared.Refusal.the-variants.{BadOpening, Opened, Unopened, OtherLength, BadLayout, NoRoom, BadSpan, PastArena}
 use Rattle.rules.specs.declared.Answer.{Answer}
 use Rattle.rules.specs.declared.Answer.the-variants.{Opening, Allocated, Freed, Extended, Listed, Room, Refused}
-use Rattle.rules.specs.Round.{Below}
 use Rattle.rules.specs.Tests.{any}
+use Rattle.rules.specs.Round.{Below}
 use Rattle.rules.specs.Kinds.{addr}
 use Rattle.rules.specs.Holes.{hole}
 use Rattle.rules.specs.Sound.{unopened, holes}

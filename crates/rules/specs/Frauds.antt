@@ -1,0 +1,206 @@
+-- The frauds and slips that the demands must shut out, each in one line and as a statement: no behaviour that commits it meets the
+-- statements of the calls. The proof is proofs/Frauds.antt.
+use mathlib.Core.Path.{_≡_}
+use mathlib.Core.List.{List, _∷_, _++_, List·Memᴰ}
+use mathlib.Core.Logic.{_⊎_}
+use Prim.Native.Nat.{ℕ, _+_, _-_, _≤_, _<_}
+use lib.ListN.{length, getD}
+use Rattle.rules.specs.declared.Addr.{Addr}
+use Rattle.rules.specs.declared.Hole.{Hole}
+use Rattle.rules.specs.declared.Heap.{Heap}
+use Rattle.rules.specs.declared.Refusal.{Refusal}
+use Rattle.rules.specs.declared.Refusal.the-variants.{OtherLength, NotSound}
+use Rattle.rules.specs.declared.Answer.the-variants.{Opening, Allocated, Freed, Extended, Listed, Room, Refused}
+use Rattle.rules.specs.Kinds.{addr}
+use Rattle.rules.specs.Calls.{Call, opening, allocate, free, extend, list, room}
+use Rattle.rules.specs.InWords.{endOf, sum, Sound, number, Rounds, RoomAt, Within, Vacant}
+use Rattle.rules.specs.Runs.{Fits}
+use Rattle.rules.specs.Behaviour.{Behaviour, Good}
+use Rattle.rules.specs.Statements.{Statements}
+
+-- no behaviour of which this is true meets the statements
+abbrev pub Caught : (Behaviour → Type 0) → Type 0
+Caught fraud = (b : Behaviour) → fraud b → Statements b → ⊥
+
+-- a call as it can be made: numbers below 2^64, memory of bytes
+abbrev pub Made : Call → List ℕ → Type 0
+Made c m = Fits c × ((i : ℕ) → getD m i 0 < 256)
+
+-- of a sound heap with its arena
+abbrev pub Asked : Behaviour → Call → Heap → List ℕ → Type 0
+Asked b c h m = Made c m × Good b h m
+
+abbrev pub Refuses : Behaviour → Call → Heap → List ℕ → Type 0
+Refuses b c h m = (r : Refusal) × (b .after c h m .answer ≡ Refused r)
+
+-- a grant: the block lies at `at`, which is in one of the holes
+pub record Grant (b : Behaviour) : Type 0 where
+  pub size : ℕ
+  pub align : ℕ
+  pub heap : Heap
+  pub arena : List ℕ
+  pub at : ℕ
+  pub count : ℕ
+  pub front : List Hole
+  pub used : Hole
+  pub back : List Hole
+  pub fits : Fits (allocate size align)
+  pub answer : b .after (allocate size align) heap arena .answer ≡ Allocated (addr at) count
+  pub one : b .holes heap arena ≡ front ++ (used ∷ back)
+  pub inside : Within (used .addr .0) (used .size) at
+
+pub record Frauds : Type 0 where
+  -- ---- refusals
+
+  -- every opening is refused
+  pub everyOpeningRefused :
+      Caught (λ b. (base : Addr) (named : ℕ) (h : Heap) (m : List ℕ) → Made (opening base named) m → h .bottom .0 ≡ 0 → Refuses b (opening base named) h m)
+  -- every allocate of a sound heap is refused
+  pub everyAllocateRefused :
+      Caught (λ b. (s align : ℕ) (h : Heap) (m : List ℕ) → Asked b (allocate s align) h m → Refuses b (allocate s align) h m)
+  -- every free of a sound heap is refused
+  pub everyFreeRefused :
+      Caught (λ b. (x : Addr) (s align : ℕ) (h : Heap) (m : List ℕ) → Asked b (free x s align) h m → Refuses b (free x s align) h m)
+  -- every call of a sound heap is refused with 5
+  pub everyCallRefused :
+      Caught
+      (λ b.
+      (c : Call) (h : Heap) (m : List ℕ) → Asked b c h m → ((base : Addr) (named : ℕ) → c ≡ opening base named → ⊥)
+      → b .after c h m .answer ≡ Refused NotSound)
+  -- once, an unopened heap is refused with 4: refusals 3 and 4 have changed places
+  pub testsSwapped :
+      Caught
+      (λ b.
+      (c : Call) × (h : Heap) × (m : List ℕ) × Fits c × (h .bottom .0 ≡ 0) × (b .after c h m .answer ≡ Refused OtherLength))
+  -- once, a call is accepted on an opened heap whose sizes do not add up
+  pub sumNotTested :
+      Caught
+      (λ b.
+      (c : Call) × (h : Heap) × (m : List ℕ)
+      × Fits c
+      × (h .bottom .0 ≡ 0 → ⊥)
+      × (sum (b .holes h m) + h .used ≡ h .top .0 - h .bottom .0 → ⊥)
+      × (Refuses b c h m → ⊥))
+  -- once, a refused call changes heap or memory
+  pub refusedWrites :
+      Caught
+      (λ b.
+      (c : Call) × (h : Heap) × (m : List ℕ)
+      × Fits c
+      × Refuses b c h m
+      × ((b .after c h m .heap ≡ h) × (b .after c h m .arena ≡ m) → ⊥))
+  -- ---- open
+
+  -- every opening drops the remainder
+  pub openingDropsPending :
+      Caught
+      (λ b.
+      (base bottom : Addr) (named s : ℕ) (h : Heap) (m : List ℕ) → Made (opening base named) m → h .bottom .0 ≡ 0
+      → b .after (opening base named) h m .answer ≡ Opening bottom s
+      → b .after (opening base named) h m .heap .pending ≡ 0)
+  -- every opening adds pending bytes to size: all that is named lies below top
+  pub pendingInSize :
+      Caught
+      (λ b.
+      (base bottom : Addr) (named s : ℕ) (h : Heap) (m : List ℕ) → Made (opening base named) m → h .bottom .0 ≡ 0
+      → b .after (opening base named) h m .answer ≡ Opening bottom s
+      → b .after (opening base named) h m .heap .top .0 ≡ base .0 + named)
+  -- an unopened heap has a first place that is not 0
+  pub unopenedNotZero : Caught (λ b. b .unopened .first .0 ≡ 0 → ⊥)
+  -- ---- allocate
+
+  -- all grants of a heap are at one address
+  pub fixedAddress :
+      Caught
+      (λ b.
+      (a : Heap → Addr)
+      × ((s align n : ℕ) (x : Addr) (h : Heap) (m : List ℕ) → Asked b (allocate s align) h m
+      → b .after (allocate s align) h m .answer ≡ Allocated x n
+      → x ≡ a h))
+  -- once, the count is not the used hole's place in the list
+  pub inventedCount : Caught (λ b. (g : Grant b) × (g .count ≡ length (g .front) + 1 → ⊥))
+  -- once, 8 bytes are left in front of the block
+  pub frontOfEight : Caught (λ b. (g : Grant b) × (g .used .addr .0 + 8 ≡ g .at))
+  -- once, 8 bytes are left behind the block
+  pub remainderKept : Caught (λ b. (g : Grant b) × (r : ℕ) × Rounds (g .size) r × (g .at + r + 8 ≡ endOf (g .used)))
+  -- once, a lower address had room
+  pub notTheLowest :
+      Caught
+      (λ b.
+      (g : Grant b) × (r : ℕ) × Rounds (g .size) r × (x : ℕ) × RoomAt r (g .align) (b .holes (g .heap) (g .arena)) x × (x < g .at))
+  -- once, an address is granted that is not free
+  pub notFree :
+      Caught
+      (λ b.
+      (g : Grant b) × (r : ℕ) × Rounds (g .size) r × (y : ℕ) × Within (g .at) r y × (Vacant (b .holes (g .heap) (g .arena)) y → ⊥))
+  -- what is freed is not granted again
+  pub neverReused :
+      Caught
+      (λ b.
+      (x : Addr) (s align r u t q n : ℕ) (h : Heap) (m : List ℕ) → Asked b (free x s align) h m → Fits (allocate t q)
+      → b .after (free x s align) h m .answer ≡ Freed r u
+      → b .after (allocate t q) (b .after (free x s align) h m .heap) (b .after (free x s align) h m .arena) .answer ≡ Allocated x n
+      → ⊥)
+  -- ---- free
+
+  -- every free leaves the holes as they were
+  pub freeDoesNothing :
+      Caught
+      (λ b.
+      (x : Addr) (s align r u : ℕ) (h : Heap) (m : List ℕ) → Asked b (free x s align) h m
+      → b .after (free x s align) h m .answer ≡ Freed r u
+      → b .holes (b .after (free x s align) h m .heap) (b .after (free x s align) h m .arena) ≡ b .holes h m)
+  -- every free leaves used as it was
+  pub freeKeepsUsed :
+      Caught
+      (λ b.
+      (x : Addr) (s align r u : ℕ) (h : Heap) (m : List ℕ) → Asked b (free x s align) h m
+      → b .after (free x s align) h m .answer ≡ Freed r u
+      → b .after (free x s align) h m .heap .used ≡ h .used)
+  -- a freed span joins only the hole before it: one that starts where the span ends stays a hole
+  pub joinsBeforeOnly :
+      Caught
+      (λ b.
+      (x : Addr) (s align r u : ℕ) (h : Heap) (m : List ℕ) (k : Hole) → Asked b (free x s align) h m
+      → b .after (free x s align) h m .answer ≡ Freed r u
+      → List·Memᴰ k (b .holes h m)
+      → k .addr .0 ≡ x .0 + r
+      → List·Memᴰ k (b .holes (b .after (free x s align) h m .heap) (b .after (free x s align) h m .arena)))
+  -- ---- extend and the reports
+
+  -- what is pending after the heap has grown follows from the bytes added alone: what was pending is lost
+  pub extendLosesPending :
+      Caught
+      (λ b.
+      (left : ℕ → ℕ)
+      × ((by s p : ℕ) (h : Heap) (m : List ℕ) → Asked b (extend by) h m → 16 ≤ h .pending + by
+      → b .after (extend by) h m .answer ≡ Extended s p
+      → p ≡ left by))
+  -- each list answers a 0
+  pub listZeros :
+      Caught
+      (λ b. (x y : ℕ) (h : Heap) (m : List ℕ) → Asked b list h m → b .after list h m .answer ≡ Listed x y → (x ≡ 0) ⊎ (y ≡ 0))
+  -- each room answers a 0
+  pub roomZeros :
+      Caught
+      (λ b. (x y : ℕ) (h : Heap) (m : List ℕ) → Asked b room h m → b .after room h m .answer ≡ Room x y → (x ≡ 0) ⊎ (y ≡ 0))
+  -- ---- memory
+
+  -- once, a call changes a byte that lies in no head of the holes it leaves
+  pub scribble :
+      Caught
+      (λ b.
+      (c : Call) × (h : Heap) × (m : List ℕ) × (i : ℕ)
+      × Fits c
+      × ((k : Hole) → List·Memᴰ k (b .holes (b .after c h m .heap) (b .after c h m .arena))
+      → Within (k .addr .0 - b .after c h m .heap .base .0) 16 i
+      → ⊥)
+      × (getD (b .after c h m .arena) i 0 ≡ getD m i 0 → ⊥))
+  -- once, the size of a sound heap's first hole is not in its head's first 8 bytes: the head is turned
+  pub headTurned :
+      Caught
+      (λ b.
+      (h : Heap) × (m : List ℕ) × (k : Hole) × (back : List Hole)
+      × Sound h (b .holes h m)
+      × (b .holes h m ≡ k ∷ back)
+      × (k .size ≡ number m (h .first .0) → ⊥))
