@@ -85,21 +85,21 @@ module _ (b : Behaviour) (sb : Statements b) where
 
   -- ---- the tests
 
-  -- an unopened heap is refused with 4
-  pub swapped : (c : Call) (h : Heap) (m : List ℕ) → Fits c → h .bottom .0 ≡ 0 → b .outcome c h m ≡ refused OtherLength → ⊥
-  swapped (opening base named) h m f z e =
+  -- no unopened heap is refused with 4
+  pub not-swapped : (c : Call) (h : Heap) (m : List ℕ) → Fits c → h .bottom .0 ≡ 0 → b .outcome c h m ≡ refused OtherLength → ⊥
+  not-swapped (opening base named) h m f z e =
       let d = sb .refusalsExactly (opening base named) h m f .1 (λ n. n z) in
       d .1 (λ n. let p = d .0 n in let z : _≡_ {A = ℕ} 0 1 = cc in omega arith) OtherLength e
-  swapped (allocate s align) h m f z e =
+  not-swapped (allocate s align) h m f z e =
       let p = sb .refusalsExactly (allocate s align) h m f .0 z in let z : _≡_ {A = ℕ} 0 1 = cc in omega arith
-  swapped (free x s align) h m f z e =
+  not-swapped (free x s align) h m f z e =
       let p = sb .refusalsExactly (free x s align) h m f .0 z in let z : _≡_ {A = ℕ} 0 1 = cc in omega arith
-  swapped (extend by) h m f z e =
+  not-swapped (extend by) h m f z e =
       let p = sb .refusalsExactly (extend by) h m f .0 z in let z : _≡_ {A = ℕ} 0 1 = cc in omega arith
-  swapped list h m f z e = let p = sb .refusalsExactly list h m f .0 z in let z : _≡_ {A = ℕ} 0 1 = cc in omega arith
-  swapped room h m f z e = let p = sb .refusalsExactly room h m f .0 z in let z : _≡_ {A = ℕ} 0 1 = cc in omega arith
+  not-swapped list h m f z e = let p = sb .refusalsExactly list h m f .0 z in let z : _≡_ {A = ℕ} 0 1 = cc in omega arith
+  not-swapped room h m f z e = let p = sb .refusalsExactly room h m f .0 z in let z : _≡_ {A = ℕ} 0 1 = cc in omega arith
 
-  -- an opened heap whose sizes do not add up is refused
+  -- an opened heap whose sizes do not add up is refused, whatever the call
   module _ (h : Heap) (m : List ℕ) (open′ : h .bottom .0 ≡ 0 → ⊥) (n : sum (b .holes h m) + h .used ≡ h .top .0 - h .bottom .0 → ⊥) where
     unsound : {D : Type 0} {o : Outcome} → Before (refusalsOf b list h m) D o → (r : Refusal) × (o ≡ refused r)
     unsound d =
@@ -107,13 +107,13 @@ module _ (b : Behaviour) (sb : Statements b) where
         (λ e. (NotSound, d .1 open′ .1 (λ k. k e) .0 (λ s. n (s .1 .sums))))
         (λ k. (OtherLength, d .1 open′ .0 k))
 
-    pub untested : (c : Call) → Fits c → (r : Refusal) × (b .outcome c h m ≡ refused r)
-    untested (opening base named) f = (Opened, sb .refusalsExactly (opening base named) h m f .0 open′)
-    untested (allocate s align) f = unsound (sb .refusalsExactly (allocate s align) h m f)
-    untested (free x s align) f = unsound (sb .refusalsExactly (free x s align) h m f)
-    untested (extend by) f = unsound (sb .refusalsExactly (extend by) h m f)
-    untested list f = unsound (sb .refusalsExactly list h m f)
-    untested room f = unsound (sb .refusalsExactly room h m f)
+    pub tested : (c : Call) → Fits c → (r : Refusal) × (b .outcome c h m ≡ refused r)
+    tested (opening base named) f = (Opened, sb .refusalsExactly (opening base named) h m f .0 open′)
+    tested (allocate s align) f = unsound (sb .refusalsExactly (allocate s align) h m f)
+    tested (free x s align) f = unsound (sb .refusalsExactly (free x s align) h m f)
+    tested (extend by) f = unsound (sb .refusalsExactly (extend by) h m f)
+    tested list f = unsound (sb .refusalsExactly list h m f)
+    tested room f = unsound (sb .refusalsExactly room h m f)
 
   -- ---- a grant
 

@@ -19,7 +19,7 @@ use Rattle.rules.proofs.SoundWords.{rounds-rounded}
 use Rattle.rules.proofs.Premises.{half}
 use Rattle.rules.proofs.Settles.{noRows}
 use Rattle.rules.proofs.Determined.{by-outcome}
-use Rattle.rules.proofs.Caught.{refused-of, swapped, untested, granting}
+use Rattle.rules.proofs.Caught.{refused-of, not-swapped, tested, granting}
 use Rattle.rules.proofs.Shown.{stage, stage-bytes, more, opens, shown, does, says, asked, askedMore, two, askedFree, saysFreed, empties, one, grantsAgain, saysOpen}
 
 pub frauds : Frauds
@@ -46,10 +46,10 @@ frauds =
           f list half stage (asked b sb list tt) (λ base named p. let z : _≡_ {A = ℕ} 0 1 = cc in omega arith) in
           let q = says b sb list half tt (shown .lists) in
           let z : _≡_ {A = ℕ} 0 1 = cc in omega arith;
-      testsSwapped = λ b (c, h, m, f, z, e) sb. swapped b sb c h m f z (refused-of b sb c h m OtherLength f e);
+      testsSwapped = λ b (c, h, m, f, z, e) sb. not-swapped b sb c h m f z (refused-of b sb c h m OtherLength f e);
       sumNotTested =
           λ b (c, h, m, f, open′, n, accepts) sb.
-          let (r, e) = untested b sb h m open′ n c f in
+          let (r, e) = tested b sb h m open′ n c f in
           accepts (r, sb .refusalsKeep c h m noRows r e .0);
       refusedWrites =
           λ b (c, h, m, f, (r, e), n) sb.
@@ -68,8 +68,12 @@ frauds =
       unopenedNotZero = λ b n sb. n (sb .unopenedIs .first);
       fixedAddress =
           λ b (a, f) sb.
-          let p = f 24 8 1 (addr 0x1008) half stage (asked b sb (allocate 24 8) (omega arith)) (says b sb (allocate 24 8) half (omega arith) (shown .low)) in
-          let q = f 24 16 2 (addr 0x1030) half stage (asked b sb (allocate 24 16) (omega arith)) (says b sb (allocate 24 16) half (omega arith) (shown .high)) in
+          let p =
+          f 24 8 1 (addr 0x1008) half stage (asked b sb (allocate 24 8) (omega arith))
+          (says b sb (allocate 24 8) half (omega arith) (shown .low)) in
+          let q =
+          f 24 16 2 (addr 0x1030) half stage (asked b sb (allocate 24 16) (omega arith))
+          (says b sb (allocate 24 16) half (omega arith) (shown .high)) in
           let z : _≡_ {A = ℕ} 0x1008 0x1030 = ap (λ (x : Addr). x .0) (p ∙ sym q) in
           omega (arith, z);
       inventedCount = λ b (g, n) sb. n (granting b sb g .count);
@@ -96,29 +100,23 @@ frauds =
           );
       neverReused =
           λ b f sb.
-          f (addr 0x1020) 16 16 16 0 16 16 1 half stage (askedFree b sb) (omega arith)
-          (saysFreed b sb)
+          f (addr 0x1020) 16 16 16 0 16 16 1 half stage (askedFree b sb) (omega arith) (saysFreed b sb)
           (rw (empties b sb) (grantsAgain b sb));
       freeDoesNothing =
           λ b f sb.
-          let p =
-          f (addr 0x1020) 16 16 16 0 half stage (askedFree b sb)
-          (saysFreed b sb) in
+          let p = f (addr 0x1020) 16 16 16 0 half stage (askedFree b sb) (saysFreed b sb) in
           let q = rw (empties b sb) at p in
           let z : _≡_ {A = ℕ} 1 2 = ap (λ (ks : List Hole). length ks) (sym (one b sb) ∙ q ∙ two b sb) in
           omega (arith, z);
       freeKeepsUsed =
           λ b f sb.
-          let p =
-          f (addr 0x1020) 16 16 16 0 half stage (askedFree b sb)
-          (saysFreed b sb) in
+          let p = f (addr 0x1020) 16 16 16 0 half stage (askedFree b sb) (saysFreed b sb) in
           let q = ap (λ (x : After). x .heap .used) (empties b sb) in
           omega (arith, p, q, shown .empty);
       joinsBeforeOnly =
           λ b f sb.
           let p =
-          f (addr 0x1020) 16 16 16 0 half stage (hole (addr 0x1030) 24) (askedFree b sb)
-          (saysFreed b sb)
+          f (addr 0x1020) 16 16 16 0 half stage (hole (addr 0x1030) 24) (askedFree b sb) (saysFreed b sb)
           (rw (two b sb) (List·Memᴰ·tail (List·Memᴰ·head refl))) refl in
           let q : List·Memᴰ (hole (addr 0x1030) 24) (hole (addr 0x1008) 64 ∷ []) = rw (empties b sb, one b sb) at p in
           ⊎-elim
@@ -127,8 +125,12 @@ frauds =
           (List·Memᴰ·cases-cons q);
       extendLosesPending =
           λ b (left, f) sb.
-          let p = f 14 80 1 half stage (asked b sb (extend 14) (omega arith)) (omega arith) (says b sb (extend 14) half (omega arith) (shown .grows)) in
-          let q = f 14 80 2 more stage (askedMore b sb (extend 14) (omega arith)) (omega arith) (says b sb (extend 14) more (omega arith) (shown .growsMore)) in
+          let p =
+          f 14 80 1 half stage (asked b sb (extend 14) (omega arith)) (omega arith)
+          (says b sb (extend 14) half (omega arith) (shown .grows)) in
+          let q =
+          f 14 80 2 more stage (askedMore b sb (extend 14) (omega arith)) (omega arith)
+          (says b sb (extend 14) more (omega arith) (shown .growsMore)) in
           let z : _≡_ {A = ℕ} 1 2 = p ∙ sym q in
           omega (arith, z);
       listZeros =

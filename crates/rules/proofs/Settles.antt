@@ -84,10 +84,10 @@ one-joined a h ks x s top pending used o p f g ls ns d e j k =
     let heap : f ≡ g = one-heap (rw new at (j .becomes)) (k .becomes) in
     d ∙ rw (heap, new) (sym e)
 
+-- ---- call by call
+
 abbrev pub noRows : Rows
 noRows = record { addrs = []; sizes = [] }
-
--- ---- call by call
 
 module _ (b e : Behaviour) (sb : Statements b) (se : Statements e) (h : Heap) (m : List ℕ) where
   opening-settled : (base : Addr) (named : ℕ) → Fits (opening base named)
@@ -171,7 +171,7 @@ module _ (b e : Behaviour) (sb : Statements b) (se : Statements e) (h : Heap) (m
       entry b e sb se h m
       (λ r p q. p _ _ (sb .refusalsExactly list h m tt) ∙ sym (q _ _ (se .refusalsExactly list h m tt)))
       (λ p q g j same.
-      sb .listDoes h m noRows g .0 ∙ sym ((rw same at (se .listDoes h m noRows j .0))))
+      sb .listDoes h m noRows g .0 ∙ sym (rw same at (se .listDoes h m noRows j .0)))
 
   room-settled : b .outcome room h m ≡ e .outcome room h m
   room-settled =

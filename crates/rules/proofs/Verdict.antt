@@ -26,11 +26,12 @@ Stops b h m r = (D : Type 0) (o : Outcome) → Before (refusalsOf b list h m) D 
 abbrev pub Passes : Behaviour → Heap → List ℕ → Type 1
 Passes b h m = (D : Type 0) (o : Outcome) → Before (refusalsOf b list h m) D o → D
 
-module _ (b e : Behaviour) (sb : Statements b) (se : Statements e) (h : Heap) (m : List ℕ) where
-  -- sound holes that one reads the other reads
-  pub same-holes : Sound h (b .holes h m) → e .holes h m ≡ b .holes h m
-  same-holes s = se .holesMean h m .0 (b .holes h m) s (sb .holesMean h m .1 s)
+-- sound holes that one reads the other reads
+pub same-holes : (b e : Behaviour) (sb : Statements b) (se : Statements e) (h : Heap) (m : List ℕ) → Sound h (b .holes h m)
+    → e .holes h m ≡ b .holes h m
+same-holes b e sb se h m s = se .holesMean h m .0 (b .holes h m) s (sb .holesMean h m .1 s)
 
+-- both are stopped with one refusal, or both pass with the same holes
 pub entry : {X : Type 0} (b e : Behaviour) (sb : Statements b) (se : Statements e) (h : Heap) (m : List ℕ)
     → ((r : Refusal) → Stops b h m r → Stops e h m r → X)
     → (Passes b h m → Passes e h m → Good b h m → Good e h m → e .holes h m ≡ b .holes h m → X)
@@ -45,11 +46,11 @@ entry b e sb se h m stop go =
     (λ t.
     let s = sb .soundMeans h (b .holes h m) .0 t in
     let same = same-holes b e sb se h m s in
-    let se : Sound h (e .holes h m) = rw same s in
+    let alike : Sound h (e .holes h m) = rw same s in
     go
     (λ D o d. d .1 opened .1 (λ n. n long) .1 (λ n. n s))
-    (λ D o d. d .1 opened .1 (λ n. n long) .1 (λ n. n se))
-    (long, s) (long, se) same)
+    (λ D o d. d .1 opened .1 (λ n. n long) .1 (λ n. n alike))
+    (long, s) (long, alike) same)
     (λ t.
     let n : Sound h (b .holes h m) → ⊥ = λ s. apart (sb .soundMeans h (b .holes h m) .1 s) t in
     let k : Sound h (e .holes h m) → ⊥ = λ s. n (subst (Sound h) (sym (same-holes e b se sb h m s)) s) in

@@ -26,7 +26,7 @@ Caught fraud = (b : Behaviour) → fraud b → Statements b → ⊥
 abbrev pub Made : Call → List ℕ → Type 0
 Made c m = Fits c × ((i : ℕ) → getD m i 0 < 256)
 
--- of a sound heap with its arena
+-- such a call of a sound heap with its arena
 abbrev pub Asked : Behaviour → Call → Heap → List ℕ → Type 0
 Asked b c h m = Made c m × Good b h m
 
@@ -50,24 +50,25 @@ pub record Grant (b : Behaviour) : Type 0 where
   pub inside : Within (used .addr .0) (used .size) at
 
 pub record Frauds : Type 0 where
-  -- ---- refusals
-
   -- every opening is refused
   pub everyOpeningRefused :
-      Caught (λ b. (base : Addr) (named : ℕ) (h : Heap) (m : List ℕ) → Made (opening base named) m → h .bottom .0 ≡ 0 → Refuses b (opening base named) h m)
+      Caught
+      (λ b.
+      (base : Addr) (named : ℕ) (h : Heap) (m : List ℕ) → Made (opening base named) m → h .bottom .0 ≡ 0
+      → Refuses b (opening base named) h m)
   -- every allocate of a sound heap is refused
   pub everyAllocateRefused :
       Caught (λ b. (s align : ℕ) (h : Heap) (m : List ℕ) → Asked b (allocate s align) h m → Refuses b (allocate s align) h m)
   -- every free of a sound heap is refused
   pub everyFreeRefused :
       Caught (λ b. (x : Addr) (s align : ℕ) (h : Heap) (m : List ℕ) → Asked b (free x s align) h m → Refuses b (free x s align) h m)
-  -- every call of a sound heap is refused with 5
+  -- every call of a sound heap but an opening is refused with 5
   pub everyCallRefused :
       Caught
       (λ b.
       (c : Call) (h : Heap) (m : List ℕ) → Asked b c h m → ((base : Addr) (named : ℕ) → c ≡ opening base named → ⊥)
       → b .after c h m .answer ≡ Refused NotSound)
-  -- once, an unopened heap is refused with 4: refusals 3 and 4 have changed places
+  -- once, an unopened heap is refused with 4: refusals 3 and 4 change places
   pub testsSwapped :
       Caught
       (λ b.
@@ -89,8 +90,6 @@ pub record Frauds : Type 0 where
       × Fits c
       × Refuses b c h m
       × ((b .after c h m .heap ≡ h) × (b .after c h m .arena ≡ m) → ⊥))
-  -- ---- open
-
   -- every opening drops the remainder
   pub openingDropsPending :
       Caught
@@ -107,8 +106,6 @@ pub record Frauds : Type 0 where
       → b .after (opening base named) h m .heap .top .0 ≡ base .0 + named)
   -- an unopened heap has a first place that is not 0
   pub unopenedNotZero : Caught (λ b. b .unopened .first .0 ≡ 0 → ⊥)
-  -- ---- allocate
-
   -- all grants of a heap are at one address
   pub fixedAddress :
       Caught
@@ -123,7 +120,7 @@ pub record Frauds : Type 0 where
   pub frontOfEight : Caught (λ b. (g : Grant b) × (g .used .addr .0 + 8 ≡ g .at))
   -- once, 8 bytes are left behind the block
   pub remainderKept : Caught (λ b. (g : Grant b) × (r : ℕ) × Rounds (g .size) r × (g .at + r + 8 ≡ endOf (g .used)))
-  -- once, a lower address had room
+  -- once, there was room at a lower address
   pub notTheLowest :
       Caught
       (λ b.
@@ -141,8 +138,6 @@ pub record Frauds : Type 0 where
       → b .after (free x s align) h m .answer ≡ Freed r u
       → b .after (allocate t q) (b .after (free x s align) h m .heap) (b .after (free x s align) h m .arena) .answer ≡ Allocated x n
       → ⊥)
-  -- ---- free
-
   -- every free leaves the holes as they were
   pub freeDoesNothing :
       Caught
@@ -166,8 +161,6 @@ pub record Frauds : Type 0 where
       → List·Memᴰ k (b .holes h m)
       → k .addr .0 ≡ x .0 + r
       → List·Memᴰ k (b .holes (b .after (free x s align) h m .heap) (b .after (free x s align) h m .arena)))
-  -- ---- extend and the reports
-
   -- what is pending after the heap has grown follows from the bytes added alone: what was pending is lost
   pub extendLosesPending :
       Caught
@@ -184,8 +177,6 @@ pub record Frauds : Type 0 where
   pub roomZeros :
       Caught
       (λ b. (x y : ℕ) (h : Heap) (m : List ℕ) → Asked b room h m → b .after room h m .answer ≡ Room x y → (x ≡ 0) ⊎ (y ≡ 0))
-  -- ---- memory
-
   -- once, a call changes a byte that lies in no head of the holes it leaves
   pub scribble :
       Caught
