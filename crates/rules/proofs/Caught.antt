@@ -1,7 +1,7 @@
 -- What holds of each call of a behaviour that meets the statements: a refusal comes of no other outcome, the tests are made, and a grant
 -- lies where demand 2 says. Assumes nothing.
 use mathlib.Core.Path.{_≡_, sym, ap, subst, _∙_}
-use mathlib.Core.List.{List, [], _∷_}
+use mathlib.Core.List.{List, [], _∷_, _++_}
 use Prim.Native.Nat.{ℕ, _+_, _-_, _≤_}
 use native.Mathlib.Omega.{arith}
 use lib.Dec.{ltb}
@@ -24,7 +24,7 @@ use Rattle.rules.specs.InWords.{SoundHoles, Rounds, sum, Lies, RoomAt}
 use Rattle.rules.specs.Runs.{Fits}
 use Rattle.rules.specs.Behaviour.{Behaviour, ours}
 use Rattle.rules.specs.Statements.{Granted, Statements, refusalsOf}
-use Rattle.rules.specs.Frauds.{Grant}
+use Rattle.rules.specs.Frauds.{Grant, UsedHole}
 use Rattle.rules.proofs.Cases.{by-test, by-eq}
 use Rattle.rules.proofs.TestWords.{no-layout}
 use Rattle.rules.proofs.Statements.{statements}
@@ -151,20 +151,36 @@ module _ (b : Behaviour) (sb : Statements b) where
     pub record Granting : Type 0 where
       pub rounded : ℕ
       pub rounds : Rounds (g .size) rounded
-      pub lies : Lies rounded (g .align) (g .used) (g .at)
+      pub sound : SoundHoles (g .heap) ks
+      pub front : List Hole
+      pub hole : Hole
+      pub back : List Hole
+      pub one : ks ≡ front ++ (hole ∷ back)
+      pub lies : Lies rounded (g .align) hole (g .at)
       pub lowest : (x : ℕ) → RoomAt rounded (g .align) ks x → g .at ≤ x
-      pub count : g .count ≡ length (g .front) + 1
+      pub count : g .count ≡ length front + 1
 
     pub granting : Granting
     granting =
         let (r, rounds, s, d, at, count) = granted-of (g .size) (g .align) (g .heap) (g .arena) (g .at) (g .count) (g .fits) (g .answer) in
-        let (front, used, back) =
-        one-place (g .heap) ks (d .front) (g .front) (d .back) (g .back) (d .used) (g .used) (g .at) s (d .one) (g .one)
-        (omega (arith, d .lies .from)) (omega (arith, d .lies .to, rounds .sixteen)) (g .inside .0) (g .inside .1) in
         record {
           rounded = r;
           rounds = rounds;
-          lies = rw (at, used) at (d .lies);
+          sound = s;
+          front = d .front;
+          hole = d .used;
+          back = d .back;
+          one = d .one;
+          lies = rw at at (d .lies);
           lowest = rw at at (d .lowest);
-          count = sym count ∙ rw front;
+          count = sym count;
         }
+
+    -- and the hole in which it lies is the used one
+    pub used-one : (u : UsedHole b g) → (granting .front ≡ u .front) × (granting .hole ≡ u .hole)
+    used-one u =
+        let d = granting in
+        let (front, hole, back) =
+        one-place (g .heap) ks (d .front) (u .front) (d .back) (u .back) (d .hole) (u .hole) (g .at) (d .sound) (d .one) (u .one)
+        (d .lies .from) (omega (arith, d .lies .to, d .rounds .sixteen)) (u .inside .0) (u .inside .1) in
+        (front, hole)

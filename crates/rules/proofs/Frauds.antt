@@ -3,7 +3,7 @@
 use mathlib.Core.Path.{_≡_, refl, sym, ap, _∙_}
 use mathlib.Core.List.{List, [], _∷_, List·Memᴰ, List·Memᴰ·head, List·Memᴰ·tail, List·Memᴰ·not-nil, List·Memᴰ·cases-cons, Memᴰ·append-right}
 use mathlib.Core.Logic.{⊎-elim}
-use Prim.Native.Nat.{ℕ}
+use Prim.Native.Nat.{ℕ, _+_}
 use native.Mathlib.Omega.{arith}
 use lib.ListN.{length, getD}
 use Rattle.rules.specs.declared.Addr.{Addr}
@@ -19,7 +19,7 @@ use Rattle.rules.proofs.SoundWords.{rounds-rounded}
 use Rattle.rules.proofs.Premises.{half}
 use Rattle.rules.proofs.Settles.{noRows}
 use Rattle.rules.proofs.Determined.{by-outcome}
-use Rattle.rules.proofs.Caught.{refused-of, not-swapped, tested, granting}
+use Rattle.rules.proofs.Caught.{refused-of, not-swapped, tested, granting, used-one}
 use Rattle.rules.proofs.Shown.{stage, stage-bytes, more, opens, shown, does, says, asked, askedMore, two, askedFree, saysFreed, empties, one, grantsAgain, saysOpen}
 
 pub frauds : Frauds
@@ -76,14 +76,18 @@ frauds =
           (says b sb (allocate 24 16) half (omega arith) (shown .high)) in
           let z : _≡_ {A = ℕ} 0x1008 0x1030 = ap (λ (x : Addr). x .0) (p ∙ sym q) in
           omega (arith, z);
-      inventedCount = λ b (g, n) sb. n (granting b sb g .count);
+      inventedCount =
+          λ b (g, u, n) sb. n (granting b sb g .count ∙ ap (λ (js : List Hole). length js + 1) (used-one b sb g u .0));
       frontOfEight =
-          λ b (g, e) sb. ⊎-elim (λ p. omega (arith, e, p)) (λ p. omega (arith, e, p)) (granting b sb g .lies .front);
+          λ b (g, u, e) sb.
+          let gap = rw (used-one b sb g u .1) at (granting b sb g .lies .front) in
+          ⊎-elim (λ p. omega (arith, e, p)) (λ p. omega (arith, e, p)) gap;
       remainderKept =
-          λ b (g, r, rounds, e) sb.
+          λ b (g, u, r, rounds, e) sb.
           let d = granting b sb g in
           let is : d .rounded ≡ r = rounds-rounded (d .rounds) ∙ sym (rounds-rounded rounds) in
-          ⊎-elim (λ p. omega (arith, e, p, is)) (λ p. omega (arith, e, p, is)) (d .lies .back);
+          let gap = rw (used-one b sb g u .1, is) at (d .lies .back) in
+          ⊎-elim (λ p. omega (arith, e, p)) (λ p. omega (arith, e, p)) gap;
       notTheLowest =
           λ b (g, r, rounds, x, some, l) sb.
           let d = granting b sb g in
@@ -94,8 +98,8 @@ frauds =
           let d = granting b sb g in
           let is : r ≡ d .rounded = rounds-rounded rounds ∙ sym (rounds-rounded (d .rounds)) in
           n (
-            g .used,
-            rw (g .one) (Memᴰ·append-right (g .front) (List·Memᴰ·head refl)),
+            d .hole,
+            rw (d .one) (Memᴰ·append-right (d .front) (List·Memᴰ·head refl)),
             (omega (arith, w .0, d .lies .from), omega (arith, w .1, is, d .lies .to)),
           );
       neverReused =

@@ -33,7 +33,7 @@ Asked b c h m = Made c m × Good b h m
 abbrev pub Refuses : Behaviour → Call → Heap → List ℕ → Type 0
 Refuses b c h m = (r : Refusal) × (b .after c h m .answer ≡ Refused r)
 
--- a grant: the block lies at `at`, which is in one of the holes
+-- a grant
 pub record Grant (b : Behaviour) : Type 0 where
   pub size : ℕ
   pub align : ℕ
@@ -41,13 +41,16 @@ pub record Grant (b : Behaviour) : Type 0 where
   pub arena : List ℕ
   pub at : ℕ
   pub count : ℕ
-  pub front : List Hole
-  pub used : Hole
-  pub back : List Hole
   pub fits : Fits (allocate size align)
   pub answer : b .after (allocate size align) heap arena .answer ≡ Allocated (addr at) count
-  pub one : b .holes heap arena ≡ front ++ (used ∷ back)
-  pub inside : Within (used .addr .0) (used .size) at
+
+-- the hole in which it lies
+pub record UsedHole (b : Behaviour) (g : Grant b) : Type 0 where
+  pub front : List Hole
+  pub hole : Hole
+  pub back : List Hole
+  pub one : b .holes (g .heap) (g .arena) ≡ front ++ (hole ∷ back)
+  pub inside : Within (hole .addr .0) (hole .size) (g .at)
 
 pub record Frauds : Type 0 where
   -- every opening is refused
@@ -115,11 +118,12 @@ pub record Frauds : Type 0 where
       → b .after (allocate s align) h m .answer ≡ Allocated x n
       → x ≡ a h))
   -- once, the count is not the used hole's place in the list
-  pub inventedCount : Caught (λ b. (g : Grant b) × (g .count ≡ length (g .front) + 1 → ⊥))
+  pub inventedCount : Caught (λ b. (g : Grant b) × (u : UsedHole b g) × (g .count ≡ length (u .front) + 1 → ⊥))
   -- once, 8 bytes are left in front of the block
-  pub frontOfEight : Caught (λ b. (g : Grant b) × (g .used .addr .0 + 8 ≡ g .at))
+  pub frontOfEight : Caught (λ b. (g : Grant b) × (u : UsedHole b g) × (u .hole .addr .0 + 8 ≡ g .at))
   -- once, 8 bytes are left behind the block
-  pub remainderKept : Caught (λ b. (g : Grant b) × (r : ℕ) × Rounds (g .size) r × (g .at + r + 8 ≡ endOf (g .used)))
+  pub remainderKept :
+      Caught (λ b. (g : Grant b) × (u : UsedHole b g) × (r : ℕ) × Rounds (g .size) r × (g .at + r + 8 ≡ endOf (u .hole)))
   -- once, there was room at a lower address
   pub notTheLowest :
       Caught
