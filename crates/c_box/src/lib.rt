@@ -16,7 +16,7 @@ ghost use Rattle.rules.specs.Kinds.{addr, number};
 ghost use Rattle.rules.specs.Calls as Calls;
 ghost use Rattle.rules.specs.Outcome.{after, rowsAfter};
 ghost use Rattle.rules.specs.Readers.{bottomOf, topOf, sizeOf, usedOf, freeOf};
-ghost use Rattle.heap.specs.Reports.{rows};
+ghost use Rattle.reports.specs.Reports.{rows};
 ghost use Rattle.c_box.specs.Face.{heapOf, Shows, Tells};
 
 // A number and two values, as an answer has them.

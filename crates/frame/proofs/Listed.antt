@@ -9,7 +9,7 @@ use Rattle.rules.specs.Calls.{list}
 use Rattle.rules.specs.Answers.{answerNumbers}
 use Rattle.rules.specs.Outcome.{outcome, after, over, inRows, rowsAfter}
 use Rattle.rules.specs.declared.Heap.{Heap}
-use Rattle.heap.specs.Reports.{rows}
+use Rattle.reports.specs.Reports.{rows}
 use Rattle.frame.specs.Wire.{line, numbersLine, holeLines, spoken}
 use Rattle.frame.specs.Printed.{placed, rowLines}
 use Rattle.frame.proofs.Placed.{take-placed}

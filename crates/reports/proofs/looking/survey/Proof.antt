@@ -1,10 +1,10 @@
--- `heap::reports::survey` meets its contract: the tests, then a walk to the end, decide 3, 4 and 5. Assumes nothing.
+-- `reports::looking::survey` meets its contract: the tests, then a walk to the end, decide 3, 4 and 5. Assumes nothing.
 use mathlib.Core.Path.{sym, _∙_}
 use borrow.Author.Needs.{needs}
-use Rattle.heap.proofs.Tested.{tested-fair}
-use Rattle.heap.proofs.Surveyed.{walk-asks, walk-all, walk-broken, walk-sum, walk-found, survey-no, survey-broken, survey-sound}
-use Rattle.heap.proofs.reports.survey.Statement.{statement}
-use Rattle.heap.proofs.reports.survey.Tie as tie
+use Rattle.reports.proofs.Lends.{tested-fair}
+use Rattle.reports.proofs.Surveyed.{walk-asks, walk-all, walk-broken, walk-sum, walk-found, survey-no, survey-broken, survey-sound}
+use Rattle.reports.proofs.looking.survey.Statement.{statement}
+use Rattle.reports.proofs.looking.survey.Tie as tie
 
 arena-len-requires : tie.Need-arena-len-requires
 arena-len-requires c κs = search needs

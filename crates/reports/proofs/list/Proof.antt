@@ -1,12 +1,12 @@
--- `heap::reports::list` meets its contract: what the survey says is the answer, and `fill` fills the rows. Assumes nothing.
+-- `reports::list` meets its contract: what the survey says is the answer, and `fill` fills the rows. Assumes nothing.
 use mathlib.Core.Path.{refl, sym, _∙_}
 use native.Mathlib.Omega.{arith}
 use borrow.Author.Needs.{needs}
 use Rattle.rules.specs.Calls.{list}
 use Rattle.rules.proofs.Calls.{answer-refused, answer-told, rows-refused, rows-told}
-use Rattle.heap.proofs.Surveyed.{surveyed, report-no, used-fits, list-told}
-use Rattle.heap.proofs.reports.list.Statement.{statement}
-use Rattle.heap.proofs.reports.list.Tie as tie
+use Rattle.reports.proofs.Surveyed.{surveyed, report-no, used-fits, list-told}
+use Rattle.reports.proofs.list.Statement.{statement}
+use Rattle.reports.proofs.list.Tie as tie
 
 survey-requires : tie.Need-survey-requires
 survey-requires c κs = search needs

@@ -11,8 +11,8 @@ use Rattle.rules.specs.declared.Refusal.the-variants.{NotSound}
 use Rattle.numbers.specs.Checks.{checkedOf}
 use Rattle.numbers.specs.declared.Checked.{Checked}
 use Rattle.numbers.specs.declared.Checked.the-variants as checked
-use Rattle.heap.specs.declared.Survey.{Survey}
-use Rattle.heap.specs.declared.Survey.the-variants.{Of, No}
+use Rattle.reports.specs.declared.Survey.{Survey}
+use Rattle.reports.specs.declared.Survey.the-variants.{Of, No}
 
 abbrev pub rows : List ℕ → List ℕ → Rows
 rows addrs sizes = record { addrs = addrs; sizes = sizes }

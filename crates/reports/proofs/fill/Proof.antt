@@ -1,10 +1,10 @@
--- `heap::reports::fill` meets its contract: at each turn the holes passed stand in both rows. Assumes nothing.
+-- `reports::fill` meets its contract: at each turn the holes passed stand in both rows. Assumes nothing.
 use Prim.Native.Nat.{_-_, _≤_}
 use native.Mathlib.Omega.{arith}
 use borrow.Author.Needs.{needs}
-use Rattle.heap.proofs.Filled.{Filling, filling, addrs-length, sizes-length, fill-turn, filling-on, filled-ended, filled-full}
-use Rattle.heap.proofs.reports.fill.Statement.{statement}
-use Rattle.heap.proofs.reports.fill.Tie as tie
+use Rattle.reports.proofs.Filled.{Filling, filling, addrs-length, sizes-length, fill-turn, filling-on, filled-ended, filled-full}
+use Rattle.reports.proofs.fill.Statement.{statement}
+use Rattle.reports.proofs.fill.Tie as tie
 
 abbrev Inv-loop : tie.InvT-loop
 Inv-loop h arena addrs₀ sizes₀ at₀ floor₀ end i₀ addrs sizes at floor i =

@@ -34,9 +34,9 @@ use Rattle.numbers.specs.declared.Checked.the-variants as checked
 use Rattle.numbers.proofs.Verdicts.{checked-fair, passes, refuses-call}
 use Rattle.hole_list.specs.Settled.{addsUp}
 use Rattle.hole_list.proofs.AddsUp.{holes-sound}
-use Rattle.heap.specs.Reports.{surveyBy, surveyOf}
-use Rattle.heap.specs.declared.Survey.{Survey}
-use Rattle.heap.specs.declared.Survey.the-variants.{Of, No}
+use Rattle.reports.specs.Reports.{surveyBy, surveyOf}
+use Rattle.reports.specs.declared.Survey.{Survey}
+use Rattle.reports.specs.declared.Survey.the-variants.{Of, No}
 
 -- ---- what a walk to the end says
 

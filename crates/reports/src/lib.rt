@@ -1,14 +1,10 @@
 // The two reports on the holes. They change neither heap nor arena.
-use crate::Survey;
+mod looking;
+
 use cursor::Step;
-use cursor::Walked;
 use cursor::first_floor;
 use cursor::next;
-use cursor::walk;
-use hole::arena_len;
-use hole_list::sums_up;
-use numbers::Checked;
-use numbers::check;
+use looking::survey;
 use rules::Addr;
 use rules::Answer;
 use rules::Heap;
@@ -20,30 +16,12 @@ ghost use Rattle.rules.specs.Sound.{holes};
 ghost use Rattle.rules.specs.Calls as Calls;
 ghost use Rattle.rules.specs.Outcome.{after, inRows, rowsAfter};
 ghost use Rattle.hole_list.specs.Settled.{Settled};
-ghost use Rattle.heap.specs.Reports.{surveyOf, rows};
+ghost use Rattle.reports.specs.Reports.{rows};
 
-// 3, 4 and 5; else what the walk to the end found.
-fn survey(h: Heap, arena: &[u8]) -> Survey
-    ensures { λ r. ⌜ r ≡ surveyOf h (now (arena .entry)) ⌝ }
-{
-    let checked = check(h, arena_len(arena));
-    if let Checked::No(r) = checked {
-        return Survey::No(r);
-    }
-    let first = h.first;
-    let walked = walk(h, arena, first, first_floor(h), 0);
-    let Walked::Good {
-        total,
-        count,
-        largest,
-    } = walked
-    else {
-        return Survey::No(Refusal::NotSound);
-    };
-    if sums_up(h, total) {
-        return Survey::Of { count, largest };
-    }
-    Survey::No(Refusal::NotSound)
+// What 3, 4, 5 and a walk to the end say: the number of holes and the largest, or no.
+pub enum Survey {
+    Of { count: u64, largest: u64 },
+    No(Refusal),
 }
 
 // The size of the largest hole, 0 if none, and the number of holes. It tests 3, 4, 5.

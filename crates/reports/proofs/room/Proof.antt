@@ -1,12 +1,12 @@
--- `heap::reports::room` meets its contract: what the survey says is the answer. Assumes nothing.
+-- `reports::room` meets its contract: what the survey says is the answer. Assumes nothing.
 use mathlib.Core.Path.{refl, sym}
 use mathlib.Core.List.{[]}
 use borrow.Author.Needs.{needs}
 use Rattle.rules.specs.Calls.{room}
 use Rattle.rules.proofs.Calls.{answer-refused, answer-told}
-use Rattle.heap.proofs.Surveyed.{surveyed, report-no, room-told}
-use Rattle.heap.proofs.reports.room.Statement.{statement}
-use Rattle.heap.proofs.reports.room.Tie as tie
+use Rattle.reports.proofs.Surveyed.{surveyed, report-no, room-told}
+use Rattle.reports.proofs.room.Statement.{statement}
+use Rattle.reports.proofs.room.Tie as tie
 
 survey-requires : tie.Need-survey-requires
 survey-requires c κs = search needs

@@ -20,6 +20,7 @@ use Rattle.rules.specs.declared.Hole.{Hole}
 use Rattle.rules.specs.declared.Heap.{Heap}
 use Rattle.rules.proofs.Cases.{cases, apart, and-left, and-right}
 use Rattle.rules.proofs.Walk.{headRules, behind, ends, walks, floorOf, sound-walks}
+use Rattle.rules.proofs.Reports.{over-length}
 use Rattle.cursor.specs.Walk.{Enough, startOf, lastOf, stepOf}
 use Rattle.cursor.specs.declared.Step.{Step}
 use Rattle.cursor.specs.declared.Step.the-variants as step
@@ -27,15 +28,9 @@ use Rattle.cursor.proofs.Step as Steps
 use Rattle.cursor.proofs.OneStep.{no-hole}
 use Rattle.cursor.proofs.Turn.{Turn, StartsBad, turn-at, turn-end, turn-bad, start}
 use Rattle.hole_list.specs.Settled.{Settled}
-use Rattle.heap.specs.Reports.{rows}
+use Rattle.reports.specs.Reports.{rows}
 
 -- ---- one row
-
-over-length : (xs row : List ℕ) → length (over xs row) ≡ length row
-unfolding over
-over-length [] row = refl
-over-length (x ∷ xs) [] = refl
-over-length (x ∷ xs) (y ∷ ys) = ap suc (over-length xs ys)
 
 -- one number more
 over-more : (xs row : List ℕ) (i x : ℕ) → length xs ≡ i → i < length row → set (over xs row) i x ≡ over (xs ++ (x ∷ [])) row
