@@ -4,11 +4,10 @@ use mathlib.Core.List.{List, [], _∷_}
 use Prim.Native.Nat.{ℕ}
 use lib.ListN.{getD}
 use Rattle.rules.specs.Kinds.{addr, place, number, index}
-use Rattle.rules.specs.Answers.{Numbers, answerNumbers}
+use Rattle.rules.specs.Answers.{answerNumbers}
 use Rattle.rules.specs.Outcome.{After}
 use Rattle.rules.specs.declared.Heap.{Heap}
 use Rattle.rules.specs.declared.Answer.{Answer}
-use Rattle.c_box.specs.declared.Told.{Told}
 
 -- base, arena length, bottom, top, first, pending, used
 abbrev pub heapOf : List ℕ → Heap
@@ -33,9 +32,6 @@ wordsOf h =
     ∷ h .pending
     ∷ h .used
     ∷ []
-
-abbrev pub told : Numbers → Told
-told n = record { 0 = n .no; 1 = n .one; 2 = n .two }
 
 -- the number is the result, the two values are the answer's words
 abbrev pub Tells : Answer → ℕ → List ℕ → Type 0

@@ -19,9 +19,6 @@ ghost use Rattle.rules.specs.Readers.{bottomOf, topOf, sizeOf, usedOf, freeOf};
 ghost use Rattle.reports.specs.Reports.{rows};
 ghost use Rattle.c_box.specs.Face.{heapOf, Shows, Tells};
 
-// A number and two values, as an answer has them.
-pub struct Told(pub u64, pub u64, pub u64);
-
 // Opens the heap on the first `named` bytes of the arena. Bottom, size.
 #[no_mangle]
 pub extern "C" fn lantern_open(

@@ -30,7 +30,6 @@ use Rattle.cursor.specs.Walk.{Lent, Asked}
 use Rattle.numbers.specs.Checks.{checkedOf}
 use Rattle.numbers.specs.declared.Checked.{Checked}
 use Rattle.numbers.specs.declared.Checked.the-variants.{No}
-use Rattle.numbers.proofs.Checked as Verdict
 use Rattle.numbers.proofs.Verdicts.{refuses-call}
 
 -- ---- the numbers
