@@ -1,7 +1,7 @@
--- `c_box::words::tell` meets its contract: the number is given and the two values are written. Assumes nothing.
+-- `words::tell` meets its contract: the number is given and the two values are written. Assumes nothing.
 use borrow.Author.Needs.{needs}
-use Rattle.c_box.proofs.words.tell.Statement.{statement}
-use Rattle.c_box.proofs.words.tell.Tie as tie
+use Rattle.words.proofs.tell.Statement.{statement}
+use Rattle.words.proofs.tell.Tie as tie
 
 answer-numbers-requires : tie.Need-answer-numbers-requires
 answer-numbers-requires c κs = search needs

@@ -6,7 +6,7 @@ use rules::Done;
 use rules::Heap;
 use rules::Place;
 ghost use mathlib.Core.Path.{_≡_};
-ghost use Rattle.c_box.specs.Face.{heapOf, wordsOf, Tells};
+ghost use Rattle.words.specs.Face.{heapOf, wordsOf, Tells};
 
 // The heap that seven words say.
 pub fn load(words: &[u64; 7]) -> Heap
