@@ -12,7 +12,7 @@ use Rattle.rules.specs.declared.Hole.{Hole}
 use Rattle.rules.proofs.Cases.{by-le, apart, or-left, or-right}
 use Rattle.rules.proofs.Rises.{Rises, rises-widen, endOr}
 use Rattle.rules.proofs.Clear.{Clear, Follows, ClearBefore, ClearBehind, overlaps-append, eight-append, overlaps-at, eight-before, eight-behind}
-use Rattle.cursor.proofs.ToSpan.{AllFrom, Beyond}
+use Rattle.spotting.proofs.ToSpan.{AllFrom, Beyond}
 
 pub clear-split : (g : Hole) (front back : List Hole) → Clear g (front ++ back) → Clear g front × Clear g back
 clear-split g front back c =

@@ -18,8 +18,8 @@ use Rattle.rules.proofs.Walk.{Fair, behind, walks, floorOf, sound-walks}
 use Rattle.rules.proofs.Rises.{Rises, rises-le, rises-widen, endOr, rises-front, rises-back, sound-rises}
 use Rattle.rules.proofs.Clear.{Clear, Follows, ClearBefore, ClearBehind, clear-none, clear-room}
 use Rattle.cursor.specs.Walk.{startOf}
-use Rattle.cursor.specs.declared.Near.{Near}
-use Rattle.cursor.proofs.ToSpan.{Lies}
+use Rattle.spotting.specs.declared.Near.{Near}
+use Rattle.spotting.proofs.ToSpan.{Lies}
 use Rattle.joining.specs.Span.{Free}
 use Rattle.giving.specs.SpanTests.{Around, keepsGap, insideOf, betweenOf, mayFree}
 use Rattle.giving.proofs.Gaps.{gap-follows, follows-gap, keepsBefore, keepsBehind}

@@ -16,7 +16,7 @@ use Rattle.rules.proofs.Walk.{behind}
 use Rattle.rules.proofs.Rises.{Rises, rises-le, endOr}
 use Rattle.rules.proofs.Lists.{addr-back}
 use Rattle.rules.proofs.Clear.{ClearBefore, ClearBehind}
-use Rattle.cursor.specs.declared.Near.{Near}
+use Rattle.spotting.specs.declared.Near.{Near}
 use Rattle.cursor.proofs.Passed.{lastPlace, lastFloor}
 use Rattle.hole_list.proofs.Linked.{last-none, last-place}
 use Rattle.giving.proofs.Gaps.{gap-follows, follows-gap, keepsBefore, keepsBehind, before-none, before-gap}

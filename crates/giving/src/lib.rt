@@ -1,7 +1,4 @@
 // Giving back: a held span becomes free.
-use cursor::Near;
-use cursor::Spot;
-use cursor::neighbours;
 use cursor::walk;
 use hole_list::adds_up;
 use hole_list::refuse;
@@ -15,6 +12,9 @@ use rules::Hole;
 use rules::MIN_SIZE;
 use rules::NONE;
 use rules::Refusal;
+use spotting::Near;
+use spotting::Spot;
+use spotting::neighbours;
 ghost use mathlib.Core.Path.{_≡_};
 ghost use Prim.Native.Nat.{_+_, _%_, _≤_};
 ghost use Rattle.rules.specs.Fixed.{grain};

@@ -29,9 +29,10 @@ use Rattle.rules.proofs.Rises.{rises-back, sound-rises}
 use Rattle.rules.proofs.Lists.{heads-to}
 use Rattle.rules.proofs.Relink.{put-same}
 use Rattle.rules.proofs.Decide.{sifted, extending}
-use Rattle.cursor.specs.Walk.{startOf, lastOf, nearAt, stoppedNear, nearOf}
-use Rattle.cursor.specs.declared.Near.{Near}
-use Rattle.cursor.specs.declared.Spot.the-variants as spot
+use Rattle.cursor.specs.Walk.{startOf, lastOf}
+use Rattle.spotting.specs.Nearest.{nearAt, stoppedNear, nearOf}
+use Rattle.spotting.specs.declared.Near.{Near}
+use Rattle.spotting.specs.declared.Spot.the-variants as spot
 use Rattle.cursor.proofs.OneStep.{rules-keep}
 use Rattle.cursor.proofs.Passed.{lastPlace}
 use Rattle.hole_list.specs.Settled.{Ready, Settled}

@@ -1,7 +1,5 @@
 // Extension: bytes of the arena behind top become free.
 use cursor::Cursor;
-use cursor::Spot;
-use cursor::neighbours;
 use hole_list::refuse;
 use hole_list::sums_up;
 use joining::insert;
@@ -13,6 +11,8 @@ use rules::Heap;
 use rules::Hole;
 use rules::MIN_SIZE;
 use rules::Refusal;
+use spotting::Spot;
+use spotting::neighbours;
 ghost use mathlib.Core.Path.{_≡_};
 ghost use Prim.Native.Nat.{_+_, _%_, _≤_};
 ghost use Rattle.rules.specs.Fixed.{grain};

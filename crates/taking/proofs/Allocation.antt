@@ -30,16 +30,17 @@ use Rattle.rules.proofs.Cases.{cases, by-test}
 use Rattle.rules.proofs.Walk.{Fair, headRules, behind, ends, walks, sound-walks}
 use Rattle.rules.proofs.Clear.{total-append}
 use Rattle.rules.proofs.Decide.{sifted}
-use Rattle.cursor.specs.Walk.{Enough, startOf, lastOf, walkedOf, stoppedSearch, searchOf}
-use Rattle.cursor.specs.declared.Fit.{Fit}
+use Rattle.cursor.specs.Walk.{Enough, startOf, lastOf, walkedOf}
+use Rattle.fitting.specs.FirstFit.{stoppedSearch, searchOf}
+use Rattle.fitting.specs.declared.Fit.{Fit}
 use Rattle.cursor.specs.declared.Step.the-variants as step
 use Rattle.cursor.specs.declared.Walked.{Walked}
-use Rattle.cursor.specs.declared.Search.{Search}
-use Rattle.cursor.specs.declared.Search.the-variants as search
-use Rattle.cursor.proofs.Search as Searches
+use Rattle.fitting.specs.declared.Search.{Search}
+use Rattle.fitting.specs.declared.Search.the-variants as search
+use Rattle.fitting.proofs.Search as Searches
 use Rattle.cursor.proofs.OneStep.{rules-keep}
 use Rattle.cursor.proofs.Turn.{start}
-use Rattle.cursor.proofs.ToFit.{Fits, fit-bad, fit-full, fit-at}
+use Rattle.fitting.proofs.ToFit.{Fits, fit-bad, fit-full, fit-at}
 use Rattle.hole_list.specs.Settled.{addsUp}
 use Rattle.taking.specs.NoHole.{noFit}
 use Rattle.hole_list.proofs.AddsUp.{holes-onward}

@@ -25,9 +25,9 @@ use Rattle.rules.proofs.Lists.{firstOr, first-or, first-append, Holds, holds-sp
 use Rattle.rules.proofs.Relink.{put-append, before-stands, relink}
 use Rattle.rules.proofs.Used.{candidate-low, suits-fits, suits-leaves, used-rises, find-total}
 use Rattle.cursor.specs.Walk.{Asked, startOf}
-use Rattle.cursor.specs.declared.Fit.{Fit}
+use Rattle.fitting.specs.declared.Fit.{Fit}
 use Rattle.cursor.proofs.Passed.{lastPlace}
-use Rattle.cursor.proofs.ToFit.{Fits}
+use Rattle.fitting.proofs.ToFit.{Fits}
 use Rattle.hole_list.specs.Settled.{Settled, leadingTo, linkedHeap, linkedArena}
 use Rattle.hole_list.proofs.Linked.{last-inside, linked-arena, linked-heap}
 use Rattle.hole_list.proofs.Stands.{stands}

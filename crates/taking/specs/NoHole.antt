@@ -6,8 +6,8 @@ use Rattle.rules.specs.Sound.{size}
 use Rattle.rules.specs.declared.Heap.{Heap}
 use Rattle.rules.specs.declared.Refusal.{Refusal}
 use Rattle.rules.specs.declared.Refusal.the-variants.{NotSound, NoRoom}
-use Rattle.cursor.specs.declared.Search.{Search}
-use Rattle.cursor.specs.declared.Search.the-variants as search
+use Rattle.fitting.specs.declared.Search.{Search}
+use Rattle.fitting.specs.declared.Search.the-variants as search
 
 unfoldable pub noFit : Heap → Search → Refusal
 noFit h (search.At f) = NotSound

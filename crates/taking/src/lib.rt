@@ -1,9 +1,9 @@
 // Allocation: the first suiting hole is used and split.
-use cursor::Fit;
-use cursor::Search;
-use cursor::candidate;
-use cursor::first_fit;
 use cursor::walk;
+use fitting::Fit;
+use fitting::Search;
+use fitting::candidate;
+use fitting::first_fit;
 use hole_list::adds_up;
 use hole_list::link;
 use hole_list::refuse;
@@ -22,7 +22,8 @@ ghost use Rattle.rules.specs.Allocate.{find};
 ghost use Rattle.rules.specs.Calls.{taken};
 ghost use Rattle.rules.specs.Outcome.{Is, leaves};
 ghost use Rattle.rules.proofs.Walk.{Fair};
-ghost use Rattle.cursor.specs.Walk.{Asked, startOf, searchOf};
+ghost use Rattle.cursor.specs.Walk.{Asked, startOf};
+ghost use Rattle.fitting.specs.FirstFit.{searchOf};
 ghost use Rattle.hole_list.specs.Settled.{Ready, Settled};
 ghost use Rattle.taking.specs.NoHole.{noFit};
 ghost use Rattle.rules.proofs.Decide.{sifted};

@@ -7,7 +7,7 @@ use borrow.Author.Tests.{not-true, not-false}
 use Rattle.rules.specs.Holes.{hole}
 use Rattle.rules.specs.Sound.{soundHoles, holes}
 use Rattle.rules.proofs.Decide.{freeing}
-use Rattle.cursor.specs.declared.Near.{Near}
+use Rattle.spotting.specs.declared.Near.{Near}
 use Rattle.giving.specs.SpanTests.{mayFree}
 use Rattle.hole_list.proofs.Sifted.{broken-is}
 use Rattle.joining.proofs.Neighbours.{near-broken, Sought, seeks, starts, goes-on}

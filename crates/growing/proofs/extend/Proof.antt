@@ -7,7 +7,7 @@ use borrow.Author.Needs.{needs}
 use borrow.Author.Tests.{not-true, not-false}
 use Rattle.rules.specs.Sound.{soundHoles, holes}
 use Rattle.rules.proofs.Decide.{extending}
-use Rattle.cursor.specs.declared.Near.{Near}
+use Rattle.spotting.specs.declared.Near.{Near}
 use Rattle.hole_list.proofs.Sifted.{broken-is}
 use Rattle.joining.proofs.Neighbours.{near-broken, Sought, seeks}
 use Rattle.growing.proofs.Extending.{top-sound, top-free, past-is, gathers-is, grows-is}

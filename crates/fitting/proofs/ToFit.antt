@@ -22,17 +22,18 @@ use Rattle.rules.specs.declared.Hole.{Hole}
 use Rattle.rules.specs.declared.Heap.{Heap}
 use Rattle.rules.proofs.Cases.{by-test}
 use Rattle.rules.proofs.Walk.{Fair, headRules, behind, ends, walks}
 use Rattle.cursor.specs.declared.Cursor.{Cursor}
-use Rattle.cursor.specs.declared.Fit.{Fit}
+use Rattle.fitting.specs.declared.Fit.{Fit}
 use Rattle.cursor.specs.declared.Step.{Step}
 use Rattle.cursor.specs.declared.Step.the-variants as step
-use Rattle.cursor.specs.declared.Search.{Search}
-use Rattle.cursor.specs.declared.Search.the-variants as search
-use Rattle.cursor.specs.Walk.{Enough, startOf, lastOf, stepOf, cursorAt, stoppedSearch, searchOf}
+use Rattle.fitting.specs.declared.Search.{Search}
+use Rattle.fitting.specs.declared.Search.the-variants as search
+use Rattle.cursor.specs.Walk.{Enough, startOf, lastOf, stepOf, cursorAt}
+use Rattle.fitting.specs.FirstFit.{stoppedSearch, searchOf}
 use Rattle.cursor.proofs.Step as Steps
 use Rattle.cursor.proofs.OneStep.{no-hole}
 use Rattle.cursor.proofs.Turn.{Turn, StartsBad, turn-at, turn-end, turn-bad, start}
 use Rattle.cursor.proofs.Passed.{lastPlace}
 
 -- ---- the turns of the loop
 

@@ -1,8 +1,8 @@
--- `cursor::to_span::stopped` meets its contract, by the three cases of a step. Assumes nothing.
+-- `spotting::stopped` meets its contract, by the three cases of a step. Assumes nothing.
 use borrow.Author.Needs.{needs}
-use Rattle.cursor.specs.Walk.{stoppedNear}
-use Rattle.cursor.proofs.to_span.stopped.Statement.{statement}
-use Rattle.cursor.proofs.to_span.stopped.Tie as tie
+use Rattle.spotting.specs.Nearest.{stoppedNear}
+use Rattle.spotting.proofs.stopped.Statement.{statement}
+use Rattle.spotting.proofs.stopped.Tie as tie
 
 enum-told : tie.Need-enum-told
 enum-told c = search needs

@@ -1,8 +1,8 @@
--- `cursor::to_fit::stopped` meets its contract, by the three cases of a step. Assumes nothing.
+-- `fitting::stopped` meets its contract, by the three cases of a step. Assumes nothing.
 use borrow.Author.Needs.{needs}
-use Rattle.cursor.specs.Walk.{stoppedSearch}
-use Rattle.cursor.proofs.to_fit.stopped.Statement.{statement}
-use Rattle.cursor.proofs.to_fit.stopped.Tie as tie
+use Rattle.fitting.specs.FirstFit.{stoppedSearch}
+use Rattle.fitting.proofs.stopped.Statement.{statement}
+use Rattle.fitting.proofs.stopped.Tie as tie
 
 enum-told : tie.Need-enum-told
 enum-told c = search needs

@@ -1,10 +1,8 @@
 // The search for the neighbours of a span.
-use crate::Cursor;
-use crate::Near;
-use crate::Spot;
-use crate::Step;
-use crate::first_floor;
-use crate::next;
+use cursor::Cursor;
+use cursor::Step;
+use cursor::first_floor;
+use cursor::next;
 use rules::Addr;
 use rules::Heap;
 use rules::MIN_SIZE;
@@ -13,7 +11,22 @@ use rules::Place;
 ghost use mathlib.Core.Path.{_≡_};
 ghost use Rattle.rules.specs.Kinds.{none};
 ghost use Rattle.rules.specs.Sound.{holes};
-ghost use Rattle.cursor.specs.Walk.{Lent, startOf, stoppedNear, nearOf};
+ghost use Rattle.cursor.specs.Walk.{Lent, startOf};
+ghost use Rattle.spotting.specs.Nearest.{stoppedNear, nearOf};
+
+// Where a span lies among the holes: behind `prev` and before `hole`, where these are; the floor
+// behind the one and the sum of the sizes up to it.
+pub struct Near {
+    pub cursor: Cursor,
+    pub floor: Addr,
+    pub total: u64,
+}
+
+// What the search for a span's neighbours finds.
+pub enum Spot {
+    Between(Near),
+    Bad,
+}
 
 // The end of the search, by the step that found no hole.
 fn stopped(st: Step, near: Near) -> Spot

@@ -1,12 +1,12 @@
--- `cursor::to_fit::suits` meets its contract, test by test: no candidate lies below its hole, and none so far above that a sum wraps.
+-- `fitting::suits` meets its contract, test by test: no candidate lies below its hole, and none so far above that a sum wraps.
 -- Assumes nothing.
 use mathlib.Core.Path.{ap}
 use native.Mathlib.Omega.{arith}
 use borrow.Author.Needs.{needs}
 use Rattle.rules.specs.declared.Addr.{Addr}
-use Rattle.cursor.proofs.Candidates.{candidate-near, small-unsuited, past-unsuited, filled-suits, left-suits}
-use Rattle.cursor.proofs.to_fit.suits.Statement.{statement}
-use Rattle.cursor.proofs.to_fit.suits.Tie as tie
+use Rattle.fitting.proofs.Candidates.{candidate-near, small-unsuited, past-unsuited, filled-suits, left-suits}
+use Rattle.fitting.proofs.suits.Statement.{statement}
+use Rattle.fitting.proofs.suits.Tie as tie
 
 returns : tie.Need-returns
 returns c = let s = c .before in small-unsuited (s .args .want) (s .pre .0 .power) (s .args .hole) (c .if1 .taken)

@@ -1,11 +1,11 @@
--- `cursor::to_fit::candidate` meets its contract: the mask tells whether the address is a multiple, and what is rounded up is the first one
+-- `fitting::candidate` meets its contract: the mask tells whether the address is a multiple, and what is rounded up is the first one
 -- that leaves room for a head. Assumes nothing.
 use mathlib.Core.Path.{sym, _∙_}
 use borrow.Author.Needs.{needs}
 use Rattle.rules.proofs.Powers.{power-pos, mask}
-use Rattle.cursor.proofs.Candidates.{aligned-candidate, raised-candidate}
-use Rattle.cursor.proofs.to_fit.candidate.Statement.{statement}
-use Rattle.cursor.proofs.to_fit.candidate.Tie as tie
+use Rattle.fitting.proofs.Candidates.{aligned-candidate, raised-candidate}
+use Rattle.fitting.proofs.candidate.Statement.{statement}
+use Rattle.fitting.proofs.candidate.Tie as tie
 
 sub-if1 : tie.Need-sub-if1
 sub-if1 c = power-pos (c .pre .0)

@@ -1,11 +1,9 @@
 // The search for the hole that an allocation uses.
-use crate::Cursor;
-use crate::Fit;
-use crate::Search;
-use crate::Step;
-use crate::first_floor;
-use crate::next;
 use align::align_up;
+use cursor::Cursor;
+use cursor::Step;
+use cursor::first_floor;
+use cursor::next;
 use rules::Addr;
 use rules::Heap;
 use rules::Hole;
@@ -19,7 +17,25 @@ ghost use Rattle.rules.specs.Round.{Power};
 ghost use Rattle.rules.specs.Allocate as Allocate;
 ghost use Rattle.rules.specs.Kinds.{none};
 ghost use Rattle.rules.specs.Sound.{holes};
-ghost use Rattle.cursor.specs.Walk.{Lent, Asked, startOf, stoppedSearch, searchOf};
+ghost use Rattle.cursor.specs.Walk.{Lent, Asked, startOf};
+ghost use Rattle.fitting.specs.FirstFit.{stoppedSearch, searchOf};
+
+// The hole that an allocation uses: where it lies, the hole itself, the place of the next one, how
+// many holes were looked at, and the sum of their sizes.
+pub struct Fit {
+    pub cursor: Cursor,
+    pub hole: Hole,
+    pub next: Place,
+    pub count: u64,
+    pub total: u64,
+}
+
+// What the search for a hole finds: the first that suits, that none does, or a broken rule.
+pub enum Search {
+    At(Fit),
+    Full { count: u64, total: u64 },
+    Bad,
+}
 
 // Where a block of the alignment would start in a hole at an address.
 pub fn candidate(addr: Addr, align: u64) -> Addr

@@ -1,13 +1,13 @@
--- `cursor::to_fit::first_fit` meets its contract. The loop's invariant: the search over the heads that are left answers as the whole search
+-- `fitting::first_fit` meets its contract. The loop's invariant: the search over the heads that are left answers as the whole search
 -- does. The measure is what is left behind the floor. Assumes nothing.
 use mathlib.Core.Path.{sym, _∙_}
 use Prim.Native.Nat.{_+_, _-_}
 use native.Mathlib.Omega.{arith}
 use borrow.Author.Needs.{needs}
 use Rattle.rules.specs.Fixed.{minSize}
-use Rattle.cursor.proofs.ToFit.{Searching, searching, search-turn, searched, searching-on, search-stops}
-use Rattle.cursor.proofs.to_fit.first_fit.Statement.{statement}
-use Rattle.cursor.proofs.to_fit.first_fit.Tie as tie
+use Rattle.fitting.proofs.ToFit.{Searching, searching, search-turn, searched, searching-on, search-stops}
+use Rattle.fitting.proofs.first_fit.Statement.{statement}
+use Rattle.fitting.proofs.first_fit.Tie as tie
 
 abbrev Inv-loop : tie.InvT-loop
 Inv-loop h arena want align cursor₀ floor₀ total₀ count₀ cursor floor total count = Searching h want align arena cursor floor total count

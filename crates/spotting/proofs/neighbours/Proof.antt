@@ -1,13 +1,13 @@
--- `cursor::to_span::neighbours` meets its contract. The loop's invariant: the search over the heads that are left answers as the whole
+-- `spotting::neighbours` meets its contract. The loop's invariant: the search over the heads that are left answers as the whole
 -- search does. The measure is what is left behind the floor. Assumes nothing.
 use mathlib.Core.Path.{_∙_}
 use Prim.Native.Nat.{_+_, _-_}
 use native.Mathlib.Omega.{arith}
 use borrow.Author.Needs.{needs}
 use Rattle.rules.specs.Fixed.{minSize}
-use Rattle.cursor.proofs.ToSpan.{Nearing, nearing, near-turn, neared, nearing-on, near-stops}
-use Rattle.cursor.proofs.to_span.neighbours.Statement.{statement}
-use Rattle.cursor.proofs.to_span.neighbours.Tie as tie
+use Rattle.spotting.proofs.ToSpan.{Nearing, nearing, near-turn, neared, nearing-on, near-stops}
+use Rattle.spotting.proofs.neighbours.Statement.{statement}
+use Rattle.spotting.proofs.neighbours.Tie as tie
 
 abbrev Inv-loop : tie.InvT-loop
 Inv-loop h arena addr cursor₀ floor₀ total₀ cursor floor total = Nearing h addr arena cursor floor total

@@ -20,17 +20,18 @@ use Rattle.rules.specs.declared.Hole.{Hole}
 use Rattle.rules.specs.declared.Heap.{Heap}
 use Rattle.rules.proofs.Cases.{by-test}
 use Rattle.rules.proofs.Walk.{Fair, headRules, behind, ends, walks}
 use Rattle.cursor.specs.declared.Cursor.{Cursor}
-use Rattle.cursor.specs.declared.Near.{Near}
+use Rattle.spotting.specs.declared.Near.{Near}
 use Rattle.cursor.specs.declared.Step.{Step}
 use Rattle.cursor.specs.declared.Step.the-variants as step
-use Rattle.cursor.specs.declared.Spot.{Spot}
-use Rattle.cursor.specs.declared.Spot.the-variants as spot
-use Rattle.cursor.specs.Walk.{Enough, startOf, lastOf, stepOf, cursorAt, nearAt, stoppedNear, nearOf}
+use Rattle.spotting.specs.declared.Spot.{Spot}
+use Rattle.spotting.specs.declared.Spot.the-variants as spot
+use Rattle.cursor.specs.Walk.{Enough, startOf, lastOf, stepOf, cursorAt}
+use Rattle.spotting.specs.Nearest.{nearAt, stoppedNear, nearOf}
 use Rattle.cursor.proofs.Step as Steps
 use Rattle.cursor.proofs.OneStep.{step-end, no-hole}
 use Rattle.cursor.proofs.Turn.{Turn, StartsBad, turn-at, turn-end, turn-bad, start}
 use Rattle.cursor.proofs.Passed.{lastPlace, lastFloor}
 
 -- ---- the turns of the loop
 
