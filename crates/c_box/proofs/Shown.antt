@@ -7,7 +7,7 @@ use Rattle.rules.specs.Outcome.{Is, after}
 use Rattle.rules.specs.declared.Heap.{Heap}
 use Rattle.rules.specs.declared.Done.{Done}
 use Rattle.rules.specs.declared.Answer.{Answer}
-use Rattle.c_box.specs.Face.{heapOf, wordsOf, Tells, Shows}
+use Rattle.words.specs.Face.{heapOf, wordsOf, Tells, Shows}
 
 module _ (x : Call) (ws m : List ℕ) {h : Heap} (loaded : h ≡ heapOf ws) where
   -- a call that may change the heap

@@ -5,8 +5,6 @@
 // Each export is the call that it wraps, on the heap that the words say: of crate heap, or for the
 // readers of crate numbers. None has a `requires`: any words and any bytes may be lent. What C has to
 // keep is what a reference means: arrays of these lengths that do not overlap.
-mod words;
-
 use rules::Addr;
 use words::load;
 use words::show;
@@ -16,11 +14,8 @@ ghost use Rattle.rules.specs.Kinds.{addr, number};
 ghost use Rattle.rules.specs.Calls as Calls;
 ghost use Rattle.rules.specs.Outcome.{after, rowsAfter};
 ghost use Rattle.rules.specs.Readers.{bottomOf, topOf, sizeOf, usedOf, freeOf};
-ghost use Rattle.heap.specs.Reports.{rows};
-ghost use Rattle.c_box.specs.Face.{heapOf, Shows, Tells};
-
-// A number and two values, as an answer has them.
-pub struct Told(pub u64, pub u64, pub u64);
+ghost use Rattle.reports.specs.Reports.{rows};
+ghost use Rattle.words.specs.Face.{heapOf, Shows, Tells};
 
 // Opens the heap on the first `named` bytes of the arena. Bottom, size.
 #[no_mangle]

@@ -8,25 +8,18 @@ use lib.ListN.{length}
 use Rattle.rules.specs.Fixed.{minSize, addrLimit}
 use Rattle.rules.specs.Tests.{all}
 use Rattle.rules.specs.Round.{Power}
-use Rattle.rules.specs.Kinds.{addrOf, placeOf, isNone, none, plus, before}
-use Rattle.rules.specs.Holes.{hole, headAt, firstOf}
-use Rattle.rules.specs.Allocate.{suits}
+use Rattle.rules.specs.Kinds.{addrOf, placeOf, isNone, plus}
+use Rattle.rules.specs.Holes.{hole, headAt}
 use Rattle.rules.specs.declared.Addr.{Addr}
 use Rattle.rules.specs.declared.Place.{Place}
 use Rattle.rules.specs.declared.Hole.{Hole}
 use Rattle.rules.specs.declared.Heap.{Heap}
 use Rattle.rules.proofs.Walk.{Fair, headRules, behind, ends}
 use Rattle.cursor.specs.declared.Cursor.{Cursor}
-use Rattle.cursor.specs.declared.Fit.{Fit}
-use Rattle.cursor.specs.declared.Near.{Near}
 use Rattle.cursor.specs.declared.Step.{Step}
 use Rattle.cursor.specs.declared.Step.the-variants as step
 use Rattle.cursor.specs.declared.Walked.{Walked}
 use Rattle.cursor.specs.declared.Walked.the-variants as walked
-use Rattle.cursor.specs.declared.Search.{Search}
-use Rattle.cursor.specs.declared.Search.the-variants as search
-use Rattle.cursor.specs.declared.Spot.{Spot}
-use Rattle.cursor.specs.declared.Spot.the-variants as spot
 
 -- ---- what a walk leans on
 
@@ -78,47 +71,7 @@ walkedOf h floor total count largest (k ∷ ks) =
     (walkedOf h (behind k) (total + k .size) (count + 1) (max largest (k .size)) ks)
     walked.Bad
 
--- ---- to the first hole that suits
-
-unfoldable pub stoppedSearch : Step → ℕ → ℕ → Search
-stoppedSearch (step.At k q) total count = search.Bad
-stoppedSearch step.End total count = search.Full count total
-stoppedSearch step.Bad total count = search.Bad
+-- ---- two places
 
 abbrev pub cursorAt : Place → Place → Cursor
 cursorAt prev at = record { prev = prev; hole = at }
-
-unfoldable pub searchOf : Heap → ℕ → ℕ → Addr → Place → ℕ → ℕ → List Hole → Search
-searchOf h want align floor prev total count [] = stoppedSearch (lastOf h floor) total count
-searchOf h want align floor prev total count (k ∷ ks) =
-    cond (all (headRules h floor k))
-    (cond (suits want align k)
-    (search.At
-    (record {
-      cursor = cursorAt prev (placeOf (h .base) (k .addr));
-      hole = k;
-      next = firstOf (h .base) ks;
-      count = count + 1;
-      total = total + k .size;
-    }))
-    (searchOf h want align (behind k) (placeOf (h .base) (k .addr)) (total + k .size) (count + 1) ks))
-    search.Bad
-
--- ---- to the first hole beyond an address
-
-abbrev pub nearAt : Place → Place → Addr → ℕ → Near
-nearAt prev at floor total = record { cursor = cursorAt prev at; floor = floor; total = total }
-
-unfoldable pub stoppedNear : Step → Near → Spot
-stoppedNear (step.At k q) near = spot.Bad
-stoppedNear step.End near = spot.Between near
-stoppedNear step.Bad near = spot.Bad
-
-unfoldable pub nearOf : Heap → Addr → Addr → Place → ℕ → List Hole → Spot
-nearOf h x floor prev total [] = stoppedNear (lastOf h floor) (nearAt prev none floor total)
-nearOf h x floor prev total (k ∷ ks) =
-    cond (all (headRules h floor k))
-    (cond (before x (k .addr))
-    (spot.Between (nearAt prev (placeOf (h .base) (k .addr)) floor total))
-    (nearOf h x (behind k) (placeOf (h .base) (k .addr)) (total + k .size) ks))
-    spot.Bad

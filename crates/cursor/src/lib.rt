@@ -1,20 +1,14 @@
 // The walk over the heads of an arena, from the first on. A step tests all that document 01 asks of
-// one head; the walks above it end at the last head, at the first that breaks a rule, or at the hole
-// that they look for. Nothing here writes.
+// one head; the walk above it ends at the last head, or at the first that breaks a rule. Nothing here
+// writes.
 mod one_step;
 mod to_end;
-mod to_fit;
-mod to_span;
 
 pub use one_step::first_floor;
 pub use one_step::next;
-use rules::Addr;
 use rules::Hole;
 use rules::Place;
 pub use to_end::walk;
-pub use to_fit::candidate;
-pub use to_fit::first_fit;
-pub use to_span::neighbours;
 
 // What a step finds: a hole and the place of the next head, no further hole, or a broken rule.
 pub enum Step {
@@ -36,36 +30,5 @@ pub enum Walked {
         count: u64,
         largest: u64,
     },
-    Bad,
-}
-
-// The hole that an allocation uses: where it lies, the hole itself, the place of the next one, how
-// many holes were looked at, and the sum of their sizes.
-pub struct Fit {
-    pub cursor: Cursor,
-    pub hole: Hole,
-    pub next: Place,
-    pub count: u64,
-    pub total: u64,
-}
-
-// What the search for a hole finds: the first that suits, that none does, or a broken rule.
-pub enum Search {
-    At(Fit),
-    Full { count: u64, total: u64 },
-    Bad,
-}
-
-// Where a span lies among the holes: behind `prev` and before `hole`, where these are; the floor
-// behind the one and the sum of the sizes up to it.
-pub struct Near {
-    pub cursor: Cursor,
-    pub floor: Addr,
-    pub total: u64,
-}
-
-// What the search for a span's neighbours finds.
-pub enum Spot {
-    Between(Near),
     Bad,
 }

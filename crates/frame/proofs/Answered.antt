@@ -9,7 +9,7 @@ use Rattle.rules.specs.Answers.{answerNumbers}
 use Rattle.rules.specs.Outcome.{outcome, after, Is}
 use Rattle.rules.specs.declared.Heap.{Heap}
 use Rattle.rules.specs.declared.Done.{Done}
-use Rattle.frame.specs.Wire.{line, numbersLine, spoken, replyTo, Reply}
+use Rattle.frame.specs.Wire.{numbersLine, spoken, replyTo, Reply}
 use Rattle.frame.specs.declared.Replied.{Replied}
 use Rattle.frame.proofs.Spoken.{lists, spoken-line, list-stays}
 

@@ -9,11 +9,12 @@ use Rattle.rules.specs.Calls.{list}
 use Rattle.rules.specs.Answers.{answerNumbers}
 use Rattle.rules.specs.Outcome.{outcome, after, over, inRows, rowsAfter}
 use Rattle.rules.specs.declared.Heap.{Heap}
-use Rattle.heap.specs.Reports.{rows}
-use Rattle.frame.specs.Wire.{line, numbersLine, holeLines, spoken}
-use Rattle.frame.specs.Printed.{placed, rowLines}
-use Rattle.frame.proofs.Placed.{take-placed}
-use Rattle.frame.proofs.Lines.{lines-length, rows-lines, over-length, row-front}
+use Rattle.reports.specs.Reports.{rows}
+use Rattle.frame.specs.Wire.{numbersLine, holeLines, spoken}
+use Rattle.printing.specs.Printed.{placed, rowLines}
+use Rattle.printing.proofs.Placed.{take-placed}
+use Rattle.frame.proofs.FromRows.{lines-length, rows-lines, row-front}
+use Rattle.rules.proofs.Reports.{over-length}
 use Rattle.frame.proofs.Spoken.{shown, spoken-is, listing}
 
 module _ (h : Heap) (m : List ℕ) {n : ℕ} (is : n ≡ answerNumbers (after list h m .answer) .one) where

@@ -4,7 +4,3 @@
 pub mod Tested
 -- an opening
 pub mod Begun
--- the rows of a report
-pub mod Filled
--- a survey, and the reports by it
-pub mod Surveyed

@@ -22,33 +22,22 @@ use Rattle.rules.specs.declared.Layout.{Layout}
 use Rattle.rules.specs.declared.Layout.the-variants.{Rounded, Bad}
 use Rattle.rules.specs.declared.Answer.the-variants.{Refused}
 use Rattle.rules.proofs.Layout as Layouts
-use Rattle.rules.proofs.Walk.{sound-fair, fair-sound}
+use Rattle.rules.proofs.Walk.{fair-sound}
 use Rattle.rules.proofs.Layouts.{rounded-least, rounded-multiple, layout-valid}
 use Rattle.rules.proofs.Decide.{sifted, freeing, extending, Opens}
 use Rattle.rules.proofs.Calls.{is-left, is-refused, sifted-refused, allocate-6, allocate-on, free-6, free-on, extend-on}
 use Rattle.cursor.specs.Walk.{Lent, Asked}
 use Rattle.numbers.specs.Checks.{checkedOf}
 use Rattle.numbers.specs.declared.Checked.{Checked}
-use Rattle.numbers.specs.declared.Checked.the-variants.{Fair, No}
-use Rattle.numbers.proofs.Checked as Verdict
-use Rattle.numbers.proofs.Verdicts.{passes, refuses-call}
+use Rattle.numbers.specs.declared.Checked.the-variants.{No}
+use Rattle.numbers.proofs.Verdicts.{refuses-call}
 
 -- ---- the numbers
-
--- what is not no lets the call go on, as an `if let` parts it
-fair-is : (v : Checked) → OneOf (0 ∷ []) (tagOf Verdict.the-type v) → v ≡ Fair
-fair-is Fair o = refl
-fair-is (No r) o = absurd (omega arith)
 
 module _ {v : Checked} {len : ℕ} (h : Heap) (m : List ℕ) (lent : len ≡ length m) (said : v ≡ checkedOf len h) where
   pub tested-no : (c : Call) → Opens c ≡ false → {r : Refusal} {d : Done} → v ≡ No r → (d .answer ≡ Refused r) × (d .heap ≡ h)
       → Is (after c h m) d m
   tested-no c later {r} e p = is-refused c h m r (refuses-call c h m later (rw lent at (sym said ∙ e))) (p .0) (p .1)
-
-  pub tested-fair : OneOf (0 ∷ []) (tagOf Verdict.the-type v) → Lent h m
-  tested-fair o =
-      let p = passes len h (sym said ∙ fair-is v o) in
-      record { fair = sound-fair h (p .1); lent = sym lent ∙ p .0 }
 
 -- ---- the layout
 

@@ -1,8 +1,7 @@
 // The calls that may change the heap.
+use giving::deallocate;
 use hole::align_layout;
 use hole::arena_len;
-use hole_list::allocate_first_fit;
-use hole_list::deallocate;
 use hole_list::is_sound;
 use hole_list::new;
 use hole_list::refuse;
@@ -15,6 +14,7 @@ use rules::Done;
 use rules::Heap;
 use rules::Layout;
 use rules::Refusal;
+use taking::allocate_first_fit;
 ghost use mathlib.Core.Path.{_≡_};
 ghost use mathlib.Core.Bool.{cond};
 ghost use Rattle.rules.specs.Sound.{soundHoles, holes};
@@ -93,5 +93,5 @@ pub fn extend(h: Heap, arena: &mut [u8], by: u64) -> Done
     if let Checked::No(r) = checked {
         return refuse(h, r);
     }
-    hole_list::extend(h, arena, by)
+    growing::extend(h, arena, by)
 }

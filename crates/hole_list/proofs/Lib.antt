@@ -1,4 +1,4 @@
--- The laws that the proofs of this crate share, by subject.
+-- The laws that the proofs of this crate and of those above it share, by subject.
 
 -- the link to a place: by the place of the hole before, and by the list of holes before
 pub mod Linked
@@ -10,20 +10,5 @@ pub mod Rest
 pub mod Stands
 -- an outcome that waits on the rules on the holes
 pub mod Sifted
--- the hole that an allocation uses, and its split
-pub mod Allocation
-pub mod Split
 -- the numbers of an opening
 pub mod Opened
--- a free span between its neighbours, and inserted among the holes
-pub mod Between
-pub mod Inserted
--- the tests of a span, one by one
-pub mod Gaps
--- the neighbours that the search found, and the walk that goes on behind them
-pub mod Neighbours
--- a span among the holes of a sound heap, and a free
-pub mod Spans
-pub mod Freeing
--- an extension
-pub mod Extending

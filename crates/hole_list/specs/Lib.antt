@@ -1,3 +1,2 @@
 -- What the contracts of src/ cite.
 pub mod Settled
-pub mod Span

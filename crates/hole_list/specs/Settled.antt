@@ -9,14 +9,10 @@ use Rattle.rules.specs.Holes.{headAt, putHead}
 use Rattle.rules.specs.Sound.{size, soundHoles, holes}
 use Rattle.rules.specs.declared.Place.{Place}
 use Rattle.rules.specs.declared.Heap.{Heap}
-use Rattle.rules.specs.declared.Refusal.{Refusal}
-use Rattle.rules.specs.declared.Refusal.the-variants.{NotSound, NoRoom}
 use Rattle.rules.proofs.Words.{Bytes}
 use Rattle.cursor.specs.Walk.{Lent}
 use Rattle.cursor.specs.declared.Walked.{Walked}
 use Rattle.cursor.specs.declared.Walked.the-variants as walked
-use Rattle.cursor.specs.declared.Search.{Search}
-use Rattle.cursor.specs.declared.Search.the-variants as search
 
 -- numbers that keep their rules, with an arena of bytes
 pub record Ready (h : Heap) (m : List ℕ) : Type 0 where
@@ -32,12 +28,6 @@ pub record Settled (h : Heap) (m : List ℕ) : Type 0 where
 unfoldable pub addsUp : Heap → Walked → Bool
 addsUp h (walked.Good total count largest) = eqb (total + h .used) (size h)
 addsUp h walked.Bad = false
-
--- why a search that found no hole is refused
-unfoldable pub noFit : Heap → Search → Refusal
-noFit h (search.At f) = NotSound
-noFit h (search.Full count total) = cond (eqb (total + h .used) (size h)) (NoRoom count) NotSound
-noFit h search.Bad = NotSound
 
 -- a heap whose first hole lies at a place; the rest stays
 abbrev pub leadingTo : Heap → Place → Heap

@@ -1,18 +1,15 @@
-// The hole list: what an allocation, a free and an extension do to the heads of an arena, once the
-// heap's numbers keep their rules. Each call walks the list once: the pass that looks for the hole or
-// the neighbours also tests the heads, and goes on to the end.
-mod giving;
-mod growing;
+// The hole list: what every call on it leans on, once the heap's numbers keep their rules. The few
+// heads that change are written here, the sum of the sizes is tested, and a new list is one hole.
+// Each call walks the list once: the pass that looks for the hole or the neighbours also tests the
+// heads, and goes on to the end.
 mod heads;
-mod joining;
 mod opening;
 mod sums;
-mod taking;
 
-pub use giving::deallocate;
-pub use growing::extend;
+pub use heads::link;
+pub use heads::remain;
 pub use opening::new;
+pub use sums::adds_up;
 pub use sums::is_sound;
 pub use sums::refuse;
 pub use sums::sums_up;
-pub use taking::allocate_first_fit;

@@ -51,7 +51,7 @@ room-does h m g = (largest (holes h m), largest-is (holes h m), good-outcome roo
 
 -- ---- numbers over the first of a row
 
-over-length : (xs row : List ℕ) → length (over xs row) ≡ length row
+pub over-length : (xs row : List ℕ) → length (over xs row) ≡ length row
 unfolding over
 over-length [] row = refl
 over-length (x ∷ xs) [] = refl

@@ -3,7 +3,7 @@
 use mathlib.Core.Path.{refl, sym, ap, _∙_}
 use Rattle.rules.specs.Calls.{opening, allocate, free, extend, room}
 use Rattle.frame.specs.Wire.{reply}
-use Rattle.frame.proofs.Placed.{line-front}
+use Rattle.printing.proofs.Placed.{line-front}
 use Rattle.frame.proofs.Spoken.{room-stays}
 use Rattle.frame.proofs.Answered.{replied-line, replied-list}
 use borrow.Author.Needs.{needs}

@@ -1,20 +1,20 @@
 -- `frame::answer::tell` meets its contract: it prints the answer's line. Assumes nothing.
 use mathlib.Core.Path.{refl}
-use Rattle.frame.proofs.Placed.{line-front}
+use Rattle.printing.proofs.Placed.{line-front}
 use borrow.Author.Needs.{needs}
 use Rattle.frame.proofs.answer.tell.Statement.{statement}
 use Rattle.frame.proofs.answer.tell.Tie as tie
 
-numbers-requires : tie.Need-numbers-requires
-numbers-requires c κs = search needs
+answer-numbers-requires : tie.Need-answer-numbers-requires
+answer-numbers-requires c κs = search needs
 
 put-line-requires : tie.Need-put-line-requires
 put-line-requires c κs = search needs
 
 returns : tie.Need-returns
 returns c =
-    let s = c .before .before .before .numbers .ensures in
-    (refl, rw (c .before .put-line .ensures, s .0, s .1, s .2) (line-front _ _ _ _), search needs)
+    let s = c .before .before .before .answer-numbers .ensures in
+    (refl, rw (c .before .put-line .ensures, s) (line-front _ _ _ _), search needs)
 
 pub tell-spec : {M : Type 1} → statement M
-tell-spec = tie.close (tie.spec numbers-requires put-line-requires returns)
+tell-spec = tie.close (tie.spec answer-numbers-requires put-line-requires returns)

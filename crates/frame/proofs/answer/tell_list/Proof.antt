@@ -7,16 +7,18 @@ use Rattle.rules.specs.declared.Answer.{Answer}
 use Rattle.rules.specs.Calls.{list}
 use Rattle.rules.specs.Answers.{answerNumbers}
 use Rattle.rules.specs.Outcome.{after}
+use Rattle.answers.specs.Numbered.{told}
+use Rattle.answers.specs.declared.Told.{Told}
 use Rattle.frame.specs.Wire.{numbersLine}
-use Rattle.frame.proofs.Placed.{line-front}
+use Rattle.printing.proofs.Placed.{line-front}
 use Rattle.frame.proofs.Listed.{listed-few, list-printed}
 use borrow.Author.Needs.{needs}
 use Rattle.frame.proofs.answer.tell_list.Statement.{statement}
 use Rattle.frame.proofs.answer.tell_list.Tie as tie
 
 -- the number that is printed first is that of the answer given
-one-is : {x : ℕ} {a a′ : Answer} → x ≡ answerNumbers a .one → a ≡ a′ → x ≡ answerNumbers a′ .one
-one-is e k = rw (← k) e
+one-is : {t : Told} {a a′ : Answer} → t ≡ told (answerNumbers a) → a ≡ a′ → t .1 ≡ answerNumbers a′ .one
+one-is e k = rw (e, k)
 
 slice-aggregate-list : tie.Need-slice-aggregate-list
 slice-aggregate-list c = search needs
@@ -27,8 +29,8 @@ slice-aggregate-list-2 c = search needs
 list-requires : tie.Need-list-requires
 list-requires c κs = search needs
 
-numbers-requires : tie.Need-numbers-requires
-numbers-requires c κs = search needs
+answer-numbers-requires : tie.Need-answer-numbers-requires
+answer-numbers-requires c κs = search needs
 
 put-line-requires : tie.Need-put-line-requires
 put-line-requires c κs = search needs
@@ -44,7 +46,7 @@ put-holes-requires c κs =
     let a = c .before .before .before .before .before in
     let l = a .before .before .before in
     let s = l .before .before .before .before .args in
-    let few = listed-few (s .h) (s .arena .now) (one-is (a .numbers .ensures .1) (l .list .ensures .0)) in
+    let few = listed-few (s .h) (s .arena .now) (one-is (a .answer-numbers .ensures) (l .list .ensures .0)) in
     (omega arith, omega arith, omega arith)
 
 add-t22 : tie.Need-add-t22
@@ -52,7 +54,7 @@ add-t22 c =
     let a = c .before .before .before .before .before .before in
     let l = a .before .before .before in
     let s = l .before .before .before .before .args in
-    let few = listed-few (s .h) (s .arena .now) (one-is (a .numbers .ensures .1) (l .list .ensures .0)) in
+    let few = listed-few (s .h) (s .arena .now) (one-is (a .answer-numbers .ensures) (l .list .ensures .0)) in
     omega arith
 
 mul-t23 : tie.Need-mul-t23
@@ -60,7 +62,7 @@ mul-t23 c =
     let a = c .before .before .before .before .before .before in
     let l = a .before .before .before in
     let s = l .before .before .before .before .args in
-    let few = listed-few (s .h) (s .arena .now) (one-is (a .numbers .ensures .1) (l .list .ensures .0)) in
+    let few = listed-few (s .h) (s .arena .now) (one-is (a .answer-numbers .ensures) (l .list .ensures .0)) in
     omega arith
 
 returns : tie.Need-returns
@@ -69,14 +71,14 @@ returns c =
     let a = c .before .before .before .before .before .before in
     let l = a .before .before .before in
     let s = l .before .before .before .before .args in
-    let n = a .numbers .ensures in
-    let few = listed-few (s .h) (s .arena .now) (one-is (n .1) (l .list .ensures .0)) in
+    let n = a .answer-numbers .ensures in
+    let few = listed-few (s .h) (s .arena .now) (one-is n (l .list .ensures .0)) in
     let first : take 35 (p .last .0) ≡ numbersLine (answerNumbers (after list (s .h) (s .arena .now) .answer)) =
-    rw (p .ensures, n .0, n .1, n .2, l .list .ensures .0) (line-front _ _ _ _) in
+    rw (p .ensures, n, l .list .ensures .0) (line-front _ _ _ _) in
     let zeros = length-replicate {A = ℕ} 2048 0 in (
       refl,
       rw (c .put-holes .ensures)
-          (list-printed (s .h) (s .arena .now) (one-is (n .1) (l .list .ensures .0)) _ _ _ _ (l .list .ensures .1) zeros zeros
+          (list-printed (s .h) (s .arena .now) (one-is n (l .list .ensures .0)) _ _ _ _ (l .list .ensures .1) zeros zeros
           (p .last .0) (omega arith) first),
       omega arith,
     )
@@ -88,7 +90,7 @@ tell-list-spec =
     slice-aggregate-list
     slice-aggregate-list-2
     list-requires
-    numbers-requires
+    answer-numbers-requires
     put-line-requires
     slice-aggregate-put-holes
     slice-aggregate-put-holes-2

@@ -2,7 +2,8 @@
 use mathlib.Core.Path.{refl, sym, _∙_}
 use borrow.Author.Needs.{needs}
 use Rattle.rules.specs.Calls.{allocate}
-use Rattle.heap.proofs.Tested.{tested-no, tested-fair, tested-bad, tested-asked, allocates-6, allocates}
+use Rattle.reports.proofs.Lends.{tested-fair}
+use Rattle.heap.proofs.Tested.{tested-no, tested-bad, tested-asked, allocates-6, allocates}
 use Rattle.heap.proofs.calls.allocate.Statement.{statement}
 use Rattle.heap.proofs.calls.allocate.Tie as tie
 

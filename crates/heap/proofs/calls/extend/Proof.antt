@@ -1,6 +1,7 @@
 -- `heap::calls::extend` meets its contract: the tests in front refuse, or earn the call on the hole list what it asks. Assumes nothing.
 use Rattle.rules.specs.Calls.{extend}
-use Rattle.heap.proofs.Tested.{tested-no, tested-fair, extends}
+use Rattle.reports.proofs.Lends.{tested-fair}
+use Rattle.heap.proofs.Tested.{tested-no, extends}
 use borrow.Author.Needs.{needs}
 use mathlib.Core.Path.{refl}
 use Rattle.heap.proofs.calls.extend.Statement.{statement}

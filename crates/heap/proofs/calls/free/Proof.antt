@@ -2,7 +2,8 @@
 use mathlib.Core.Path.{refl, sym, _∙_}
 use borrow.Author.Needs.{needs}
 use Rattle.rules.specs.Calls.{free}
-use Rattle.heap.proofs.Tested.{tested-no, tested-fair, tested-bad, tested-asked, frees-6, frees}
+use Rattle.reports.proofs.Lends.{tested-fair}
+use Rattle.heap.proofs.Tested.{tested-no, tested-bad, tested-asked, frees-6, frees}
 use Rattle.heap.proofs.calls.free.Statement.{statement}
 use Rattle.heap.proofs.calls.free.Tie as tie
 

@@ -1,0 +1,2 @@
+-- Frames, as definitions.
+pub mod Frames

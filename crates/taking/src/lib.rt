@@ -1,0 +1,90 @@
+// Allocation: the first suiting hole is used and split.
+use cursor::walk;
+use fitting::Fit;
+use fitting::Search;
+use fitting::candidate;
+use fitting::first_fit;
+use hole_list::adds_up;
+use hole_list::link;
+use hole_list::refuse;
+use hole_list::remain;
+use hole_list::sums_up;
+use rules::Addr;
+use rules::Answer;
+use rules::Done;
+use rules::Heap;
+use rules::MIN_SIZE;
+use rules::Refusal;
+ghost use mathlib.Core.Path.{_≡_};
+ghost use Rattle.rules.specs.Kinds.{none};
+ghost use Rattle.rules.specs.Sound.{holes};
+ghost use Rattle.rules.specs.Allocate.{find};
+ghost use Rattle.rules.specs.Calls.{taken};
+ghost use Rattle.rules.specs.Outcome.{Is, leaves};
+ghost use Rattle.rules.proofs.Walk.{Fair};
+ghost use Rattle.cursor.specs.Walk.{Asked, startOf};
+ghost use Rattle.fitting.specs.FirstFit.{searchOf};
+ghost use Rattle.hole_list.specs.Settled.{Ready, Settled};
+ghost use Rattle.taking.specs.NoHole.{noFit};
+ghost use Rattle.rules.proofs.Decide.{sifted};
+
+// Uses the hole that was found: what remains of it behind the block and in front of it become holes,
+// and the hole before leads to the first of them.
+fn split_current(h: Heap, arena: &mut [u8], fit: Fit, want: u64, align: u64) -> Done
+    requires { ⌜ Settled h (now arena) × Asked want align × (searchOf h want align (startOf h) none 0 0 (holes h (now arena)) ≡ Search.At fit) ⌝ }
+    ensures { λ r. ⌜ Is (leaves h (now (arena .entry)) (taken want align h (holes h (now (arena .entry))) (find want align (holes h (now (arena .entry)))))) r (now (arena .exit)) ⌝ }
+{
+    let base = h.base;
+    let hole = fit.hole;
+    let addr = hole.addr;
+    let start = candidate(addr, align);
+    let end = Addr(addr.0 + hole.size);
+    let next = fit.next;
+    let behind = remain(arena, base, Addr(start.0 + want), end, next);
+    let to = remain(arena, base, addr, start, behind);
+    let cursor = fit.cursor;
+    let prev = cursor.prev;
+    let linked = link(h, arena, prev, to);
+    Done {
+        heap: Heap {
+            used: h.used + want,
+            ..linked
+        },
+        answer: Answer::Allocated {
+            addr: start,
+            count: fit.count,
+        },
+    }
+}
+
+// No hole suits, or a head breaks a rule.
+fn no_fit(h: Heap, found: Search) -> Done
+    requires { ⌜ Fair h ⌝ }
+    ensures { λ r. ⌜ (r .answer ≡ Answer.Refused (noFit h found)) × (r .heap ≡ h) ⌝ }
+{
+    let Search::Full { count, total } = found else {
+        return refuse(h, Refusal::NotSound);
+    };
+    if sums_up(h, total) {
+        return refuse(h, Refusal::NoRoom { holes: count });
+    }
+    refuse(h, Refusal::NotSound)
+}
+
+// Grants the first hole that suits a rounded size and an alignment, or refuses with 5 or 7.
+pub fn allocate_first_fit(h: Heap, arena: &mut [u8], want: u64, align: u64) -> Done
+    requires { ⌜ Ready h (now arena) × Asked want align ⌝ }
+    ensures { λ r. ⌜ Is (leaves h (now (arena .entry)) (sifted h (holes h (now (arena .entry))) (taken want align h (holes h (now (arena .entry))) (find want align (holes h (now (arena .entry))))))) r (now (arena .exit)) ⌝ }
+{
+    let found = first_fit(h, arena, want, align);
+    let Search::At(fit) = found else {
+        return no_fit(h, found);
+    };
+    let hole = fit.hole;
+    let next = fit.next;
+    let floor = Addr(hole.addr.0 + hole.size + MIN_SIZE);
+    if adds_up(h, walk(h, arena, next, floor, fit.total)) {
+        return split_current(h, arena, fit, want, align);
+    }
+    refuse(h, Refusal::NotSound)
+}
