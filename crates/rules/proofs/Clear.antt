@@ -1,20 +1,19 @@
 -- What stands against a free: of the holes only the one before the span and the one behind it can. Assumes nothing.
 use mathlib.Core.Path.{_≡_, refl, sym}
 use mathlib.Core.Bool.{Bool, true, false, _||_, or-assoc, or-true}
-use mathlib.Core.List.{List, [], _∷_, _++_, append-assoc}
+use mathlib.Core.List.{List, [], _∷_, _++_}
 use Prim.Native.Nat.{ℕ, _+_, _-_, _≤_, _<_}
 use native.Mathlib.Omega.{arith}
 use lib.Dec.{eqb, ltb}
 use borrow.Author.Tests.{ltb-false, le-ltb, lt-ltb, eq-eqb, ne-eqb}
 use Rattle.rules.specs.declared.Hole.{Hole}
-use Rattle.rules.specs.Fixed.{minSize, grain}
+use Rattle.rules.specs.Fixed.{grain}
 use Rattle.rules.specs.Tests.{all, any}
 use Rattle.rules.specs.Kinds.{before}
 use Rattle.rules.specs.Holes.{end, total}
-use Rattle.rules.specs.Free.{freed, overlaps, eight, eightToHole}
+use Rattle.rules.specs.Free.{overlaps, eight, eightToHole}
 use Rattle.rules.proofs.Cases.{cases, by-le, apart, or-left, or-right, neither}
 use Rattle.rules.proofs.Rises.{Rises, rises-le, endOr, rises-front, rises-back}
-use Rattle.rules.proofs.Freed.{Beyond, last-end, freed-rises}
 
 -- ---- the tests on one hole
 
@@ -65,13 +64,6 @@ module _ (g k : Hole) (front back : List Hole) where
       rw (eight-append g front (k ∷ back), eq-eqb (end k .0 + grain) (g .addr .0) e, or-true (eqb (end g .0 + grain) (k .addr .0)))
       (or-true (eightToHole g front))
 
-  -- the same of the last hole before the span
-  pub overlaps-last : g .addr .0 < end k .0 → k .addr .0 < end g .0 → overlaps g ((front ++ (k ∷ [])) ++ back) ≡ true
-  overlaps-last l m = rw (append-assoc front (k ∷ []) back) (overlaps-at l m)
-
-  pub eight-last : end k .0 + grain ≡ g .addr .0 → eightToHole g ((front ++ (k ∷ [])) ++ back) ≡ true
-  eight-last e = rw (append-assoc front (k ∷ []) back) (eight-behind e)
-
 -- ---- none does
 
 -- the holes neither overlap the span nor lie exactly 8 bytes from it
@@ -108,23 +100,6 @@ abbrev pub ClearBehind : Hole → List Hole → Type 0
 ClearBehind g [] = Unit {0}
 ClearBehind g (k ∷ ks) = Follows (k .addr .0) (end g .0)
 
-pub clear-last : (g k : Hole) (front : List Hole) → Follows (g .addr .0) (end k .0) → ClearBefore g (front ++ (k ∷ []))
-clear-last g k [] f = f
-clear-last g k (j ∷ front) f = rw (last-end (end j .0) front k) f
-
-pub clear-beyond : (g : Hole) (back : List Hole) → minSize ≤ g .size → ClearBehind g back → Beyond g back
-clear-beyond g [] n f = tt
-clear-beyond g (k ∷ ks) n f = omega arith
-
-end-low : (lo : ℕ) (g : Hole) (front : List Hole) → lo ≤ g .addr .0 → ClearBefore g front → endOr lo front ≤ g .addr .0
-end-low lo g [] l f = l
-end-low lo g (k ∷ ks) l f = f .0
-
-rises-behind : (lo hi : ℕ) (g : Hole) (back : List Hole) → Rises lo hi back → end g .0 ≤ hi → ClearBehind g back
-    → Rises (end g .0) hi back
-rises-behind lo hi g [] r m f = m
-rises-behind lo hi g (k ∷ ks) r m f = (f .0, r .1, r .2)
-
 -- a hole has 16 bytes, so each one further from the span is clear of it
 clear-before : (lo : ℕ) (g : Hole) (ks : List Hole) → Rises lo (endOr lo ks) ks → ClearBefore g ks → Clear g ks
 unfolding overlaps eightToHole
@@ -148,15 +123,6 @@ clear-none lo hi g front back r a b =
     let x = clear-before lo g front (rises-front lo hi front back r) a in
     let y = clear-behind (endOr lo front) hi g back (rises-back lo hi front back r) b in
     (rw (overlaps-append g front back) (neither (x .0) (y .0)), rw (eight-append g front back) (neither (x .1) (y .1)))
-
--- so freed it lies among holes that rise
-pub clear-rises : (lo hi : ℕ) (g : Hole) (front back : List Hole) → Rises lo hi (front ++ back)
-    → lo ≤ g .addr .0 → end g .0 ≤ hi → minSize ≤ g .size → ClearBefore g front → ClearBehind g back
-    → Rises lo hi (freed g (front ++ back))
-clear-rises lo hi g front back r l m n a b =
-    freed-rises lo hi g front back (rises-front lo hi front back r) (end-low lo g front l a) n
-    (rises-behind (endOr lo front) hi g back (rises-back lo hi front back r) m b)
-    (clear-beyond g back n b)
 
 -- ---- the room that the holes leave
 

@@ -1,23 +1,23 @@
 -- `check_merge_top` and `check_merge_bottom` change no hole on shared ground. Assumes nothing.
 use mathlib.Core.Path.{_≡_, refl, sym, _∙_}
-use mathlib.Core.Bool.{Bool, true, false, _&&_, cond}
+use mathlib.Core.Bool.{true, false}
 use mathlib.Core.List.{List, [], _∷_, _++_}
-use Prim.Native.Nat.{ℕ, _+_, _-_, _%_, _≤_, _<_}
+use Prim.Native.Nat.{ℕ, _+_, _-_, _%_, _≤_}
 use native.Mathlib.Omega.{arith}
 use lib.Dec.{ltb}
-use borrow.Author.Tests.{ltb-true, ltb-false, leb-true, eqb-true, eqb-false, not-false, lt-ltb, le-ltb}
+use borrow.Author.Tests.{ltb-false, leb-true, eqb-true, eqb-false, not-false, lt-ltb, le-ltb}
 use Rattle.rules.specs.declared.Addr.{Addr}
 use Rattle.rules.specs.declared.Hole.{Hole}
 use Rattle.rules.specs.declared.Heap.{Heap}
 use Rattle.rules.specs.Fixed.{minSize, grain}
 use Rattle.rules.specs.Tests.{all, any}
-use Rattle.rules.specs.Kinds.{plus, before, same, notAfter, raised}
+use Rattle.rules.specs.Kinds.{plus, same, notAfter, raised}
 use Rattle.rules.specs.Holes.{end}
 use Rattle.rules.specs.Sound.{soundNumbers, gap, holeRules, lie, leaveBefore, leaveAfter, listRules, soundHoles, sound}
 use Rattle.rules.specs.Refusals.{refusal8}
 use Rattle.rules.specs.LeftOut.{checkMergeTop, checkMergeBottom, Harmless}
-use Rattle.rules.proofs.Cases.{cases, by-eq, by-le, and-left, and-right, last, all-each, any-each}
-use Rattle.rules.proofs.Walk.{Fair, sound-fair}
+use Rattle.rules.proofs.Cases.{cases, by-eq, and-left, and-right, last, all-each, any-each}
+use Rattle.rules.proofs.Walk.{sound-fair}
 
 -- ---- by where the hole lies
 

@@ -16,8 +16,7 @@ pub mod Walk
 pub mod Rises
 -- the used hole
 pub mod Used
--- the freed span: what it joins, where it goes, what stands against it
-pub mod Joins
+-- the freed span: where it goes and what it joins, what stands against it
 pub mod Freed
 pub mod Clear
 -- the order of the tests, and what each call comes to behind them

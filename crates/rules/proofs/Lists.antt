@@ -70,11 +70,6 @@ Holds base m [] q = Unit {0}
 Holds base m (k ∷ ks) q =
     (headAt m (placeOf base (k .addr)) ≡ record { size = k .size; next = firstOr base ks q }) × Holds base m ks q
 
-pub holds-append : (base : Addr) (m : List ℕ) (xs ys : List Hole) (q : Place)
-    → Holds base m xs (firstOr base ys q) → Holds base m ys q → Holds base m (xs ++ ys) q
-holds-append base m [] ys q s t = t
-holds-append base m (k ∷ xs) ys q s t = (rw (first-append base xs ys q) (s .0), holds-append base m xs ys q (s .1) t)
-
 pub holds-split : (base : Addr) (m : List ℕ) (xs ys : List Hole) (q : Place)
     → Holds base m (xs ++ ys) q → Holds base m xs (firstOr base ys q) × Holds base m ys q
 holds-split base m [] ys q s = (tt, s)

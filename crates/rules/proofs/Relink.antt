@@ -4,14 +4,14 @@ use mathlib.Core.Path.{_≡_, refl, sym, _∙_}
 use mathlib.Core.List.{List, [], _∷_, _++_}
 use Prim.Native.Nat.{ℕ, _+_, _≤_, _<_}
 use native.Mathlib.Omega.{arith}
-use lib.ListN.{length, getD}
+use lib.ListN.{getD}
 use Rattle.rules.specs.declared.Addr.{Addr}
 use Rattle.rules.specs.declared.Place.{Place}
 use Rattle.rules.specs.declared.Hole.{Hole}
 use Rattle.rules.specs.Kinds.{placeOf, none}
 use Rattle.rules.specs.Holes.{headAt, putHead, firstOf, putHeads}
 use Rattle.rules.proofs.Words.{Bytes}
-use Rattle.rules.proofs.Heads.{putHead-length, putHead-below, putHead-bytes, head-agree, head-same}
+use Rattle.rules.proofs.Heads.{putHead-below, putHead-bytes, head-agree, head-same}
 use Rattle.rules.proofs.Rises.{Rises, rises-le, endOr, rises-front, rises-back}
 use Rattle.rules.proofs.Lists.{
   firstOr,
@@ -58,19 +58,6 @@ unfoldable pub link : Addr → List Hole → Place → List ℕ → List ℕ
 link base [] q m = m
 link base (k ∷ []) q m = putHead m (placeOf base (k .addr)) (record { size = k .size; next = q })
 link base (k ∷ j ∷ js) q m = link base (j ∷ js) q m
-
-pub link-last : (base : Addr) (ks : List Hole) (k : Hole) (q : Place) (m : List ℕ)
-    → link base (ks ++ (k ∷ [])) q m ≡ putHead m (placeOf base (k .addr)) (record { size = k .size; next = q })
-unfolding link
-link-last base [] k q m = refl
-link-last base (i ∷ []) k q m = refl
-link-last base (i ∷ j ∷ js) k q m = link-last base (j ∷ js) k q m
-
-pub link-length : (base : Addr) (ks : List Hole) (q : Place) (m : List ℕ) → length (link base ks q m) ≡ length m
-unfolding link
-link-length base [] q m = refl
-link-length base (k ∷ []) q m = putHead-length m (placeOf base (k .addr)) (record { size = k .size; next = q })
-link-length base (k ∷ j ∷ js) q m = link-length base (j ∷ js) q m
 
 pub link-bytes : (base : Addr) (ks : List Hole) (q : Place) (m : List ℕ) → Bytes m → Bytes (link base ks q m)
 unfolding link

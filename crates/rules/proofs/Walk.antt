@@ -2,11 +2,11 @@
 use mathlib.Core.Path.{_≡_, refl, sym, _∙_}
 use mathlib.Core.Bool.{Bool, true, false, _&&_, cond}
 use mathlib.Core.List.{List, [], _∷_}
-use Prim.Native.Nat.{ℕ, _+_, _-_, _*_, _%_, _^_, _≤_, _<_}
+use Prim.Native.Nat.{_+_, _*_, _%_, _≤_, _<_}
 use native.Mathlib.Omega.{arith}
 use lib.Dec.{leb, eqb}
 use lib.ListN.{length}
-use borrow.Author.Tests.{leb-true, leb-false, eqb-true, eqb-false, le-leb, lt-leb, eq-eqb, ne-eqb}
+use borrow.Author.Tests.{leb-true, eqb-true, le-leb, lt-leb, eq-eqb, ne-eqb}
 use Rattle.rules.specs.declared.Addr.{Addr}
 use Rattle.rules.specs.declared.Hole.{Hole}
 use Rattle.rules.specs.declared.Heap.{Heap}
@@ -15,7 +15,7 @@ use Rattle.rules.specs.Tests.{all, any}
 use Rattle.rules.specs.Kinds.{plus, same, notAfter, multipleOf}
 use Rattle.rules.specs.Holes.{end, total}
 use Rattle.rules.specs.Sound.{size, numberRules, soundNumbers, gap, holeRules, lie, rise, leaveBefore, leaveAfter, listRules, soundHoles, most}
-use Rattle.rules.proofs.Cases.{cases, iff, by-eq, by-le, and-left, and-right, both, last, Each, all-each, each-all}
+use Rattle.rules.proofs.Cases.{cases, iff, by-eq, and-left, and-right, both, last, all-each, each-all}
 
 -- ---- the rules on the numbers, as numbers
 
