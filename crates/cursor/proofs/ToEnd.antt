@@ -14,14 +14,14 @@ use Rattle.rules.specs.declared.Addr.{Addr}
 use Rattle.rules.specs.declared.Place.{Place}
 use Rattle.rules.specs.declared.Hole.{Hole}
 use Rattle.rules.specs.declared.Heap.{Heap}
-use Rattle.rules.proofs.Cases.{cases, and-left, and-right}
-use Rattle.rules.proofs.Walk.{headRules, behind, walks}
+use Rattle.rules.proofs.Cases.{cases, and-left}
+use Rattle.rules.proofs.Walk.{headRules, Keeps, rules-keep, behind, walks, walks-tail}
 use Rattle.cursor.specs.declared.Step.{Step}
 use Rattle.cursor.specs.declared.Step.the-variants as step
 use Rattle.cursor.specs.declared.Walked.the-variants as walked
 use Rattle.cursor.specs.Walk.{Enough, lastOf, stepOf, stoppedWalk, walkedOf}
 use Rattle.cursor.proofs.Step as Steps
-use Rattle.cursor.proofs.OneStep.{Keeps, rules-keep, step-at, no-hole}
+use Rattle.cursor.proofs.OneStep.{step-at, no-hole}
 use Rattle.cursor.proofs.Turn.{StartsBad, turn-at, turn-end, turn-bad}
 
 -- ---- one turn
@@ -74,7 +74,7 @@ module _ (h : Heap) where
       rw (walked-none h floor total count largest, e, a, b, c)
   walked-good floor total count largest (k ∷ ks) e =
       let r = and-left (all (headRules h floor k)) (walks h (behind k) ks) e in
-      let w = and-right (all (headRules h floor k)) (walks h (behind k) ks) e in
+      let w = walks-tail h floor k ks e in
       let a : total + k .size + Holes.total ks ≡ total + (k .size + Holes.total ks) = omega arith in
       let b : count + 1 + length ks ≡ count + suc (length ks) = omega arith in
       walked-more h floor total count largest k ks r

@@ -27,7 +27,7 @@ use Rattle.rules.specs.declared.Heap.{Heap}
 use Rattle.rules.specs.declared.Done.{Done}
 use Rattle.rules.specs.declared.Refusal.the-variants.{NotSound}
 use Rattle.rules.proofs.Cases.{cases, by-test}
-use Rattle.rules.proofs.Walk.{Fair, headRules, behind, ends, walks, sound-walks}
+use Rattle.rules.proofs.Walk.{Fair, headRules, rules-keep, behind, ends, walks, sound-walks}
 use Rattle.rules.proofs.Clear.{total-append}
 use Rattle.rules.proofs.Decide.{sifted}
 use Rattle.cursor.specs.Walk.{Enough, startOf, lastOf, walkedOf, stoppedSearch, searchOf}
@@ -37,7 +37,6 @@ use Rattle.cursor.specs.declared.Walked.{Walked}
 use Rattle.cursor.specs.declared.Search.{Search}
 use Rattle.cursor.specs.declared.Search.the-variants as search
 use Rattle.cursor.proofs.Search as Searches
-use Rattle.cursor.proofs.OneStep.{rules-keep}
 use Rattle.cursor.proofs.Turn.{start}
 use Rattle.cursor.proofs.ToFit.{Fits, fit-bad, fit-full, fit-at}
 use Rattle.hole_list.specs.Settled.{addsUp, noFit}

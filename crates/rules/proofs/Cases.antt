@@ -1,6 +1,6 @@
 -- Going by cases on a test, with the test's equation in hand; lists of tests, test by test. Assumes nothing.
 use mathlib.Core.Path.{_≡_, refl, sym, _∙_}
-use mathlib.Core.Bool.{Bool, true, false, _&&_, _||_, cond}
+use mathlib.Core.Bool.{Bool, true, false, _&&_, _||_, cond, or-false}
 use mathlib.Core.List.{List, [], _∷_}
 use Prim.Native.Nat.{ℕ, _≤_, _<_}
 use native.Mathlib.Omega.{arith}
@@ -53,8 +53,7 @@ or-right false b e = e
 
 -- the last of several tests, once the others have failed
 pub last : (a : Bool) → (a || false) ≡ true → a ≡ true
-last true e = refl
-last false e = e
+last a e = sym (or-false a) ∙ e
 
 pub neither : {a b : Bool} → a ≡ false → b ≡ false → (a || b) ≡ false
 neither e f = rw e f

@@ -2,17 +2,19 @@
 use mathlib.Core.Path.{_≡_, refl, sym}
 use mathlib.Core.Bool.{Bool, true, false, _||_, or-assoc, or-true}
 use mathlib.Core.List.{List, [], _∷_, _++_}
-use Prim.Native.Nat.{ℕ, _+_, _-_, _≤_, _<_}
+use Prim.Native.Nat.{ℕ, _+_, _-_, _%_, _≤_, _<_}
 use native.Mathlib.Omega.{arith}
 use lib.Dec.{eqb, ltb}
-use borrow.Author.Tests.{ltb-false, le-ltb, lt-ltb, eq-eqb, ne-eqb}
+use borrow.Author.Tests.{ltb-false, eqb-true, eqb-false, not-false, le-ltb, lt-ltb, eq-eqb, ne-eqb}
 use Rattle.rules.specs.declared.Hole.{Hole}
+use Rattle.rules.specs.declared.Heap.{Heap}
 use Rattle.rules.specs.Fixed.{grain}
 use Rattle.rules.specs.Tests.{all, any}
 use Rattle.rules.specs.Kinds.{before}
 use Rattle.rules.specs.Holes.{end, total}
 use Rattle.rules.specs.Free.{overlaps, eight, eightToHole}
-use Rattle.rules.proofs.Cases.{cases, by-le, apart, or-left, or-right, neither}
+use Rattle.rules.specs.Refusals.{refusal8}
+use Rattle.rules.proofs.Cases.{cases, by-le, apart, or-left, or-right, neither, any-each}
 use Rattle.rules.proofs.Rises.{Rises, rises-le, endOr, rises-front, rises-back}
 
 -- ---- the tests on one hole
@@ -74,7 +76,31 @@ Clear g ks = (overlaps g ks ≡ false) × (eightToHole g ks ≡ false)
 abbrev pub Follows : ℕ → ℕ → Type 0
 Follows b a = (a ≤ b) × (a + grain ≡ b → ⊥)
 
-one-before : (g k : Hole) (ks : List Hole) → Follows (g .addr .0) (end k .0) → Clear g ks → Clear g (k ∷ ks)
+-- what refusal 8 lets through: bottom and top are clear of it too
+pub record Passed (h : Heap) (ks : List Hole) (g : Hole) : Type 0 where
+  pub at8 : g .addr .0 % grain ≡ 0
+  pub low : Follows (g .addr .0) (h .bottom .0)
+  pub high : Follows (h .top .0) (end g .0)
+  pub clear : Clear g ks
+
+pub passed : (h : Heap) (ks : List Hole) (g : Hole) (align : ℕ) → any (refusal8 h ks g align) ≡ false → Passed h ks g
+passed h ks g align e =
+    let r = any-each (refusal8 h ks g align) e in
+    record {
+      at8 = eqb-true (g .addr .0 % grain) 0 (not-false _ (r .0));
+      low = (
+        ltb-false (g .addr .0) (h .bottom .0) (r .1 .1 .0),
+        eqb-false (h .bottom .0 + grain) (g .addr .0) (r .1 .1 .1 .1 .1 .1 .0),
+      );
+      high = (
+        ltb-false (h .top .0) (end g .0) (r .1 .1 .1 .0),
+        eqb-false (end g .0 + grain) (h .top .0) (r .1 .1 .1 .1 .1 .1 .1 .0),
+      );
+      clear = (r .1 .1 .1 .1 .0, r .1 .1 .1 .1 .1 .0);
+    }
+
+-- hole by hole
+pub one-before : (g k : Hole) (ks : List Hole) → Follows (g .addr .0) (end k .0) → Clear g ks → Clear g (k ∷ ks)
 unfolding overlaps eightToHole
 one-before g k ks f c =
     let a = le-ltb (g .addr .0) (end k .0) (f .0) in

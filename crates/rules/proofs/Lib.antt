@@ -11,8 +11,10 @@ pub mod Words
 pub mod Heads
 pub mod Lists
 pub mod Relink
--- soundness as a walk reads it, and the order of the holes
+-- what is left between two addresses; soundness as a walk reads it, and the order of the holes
+pub mod Gaps
 pub mod Walk
+pub mod Floors
 pub mod Rises
 -- the used hole
 pub mod Used

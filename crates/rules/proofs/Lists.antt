@@ -10,12 +10,15 @@ use Rattle.rules.specs.declared.Addr.{Addr}
 use Rattle.rules.specs.declared.Place.{Place}
 use Rattle.rules.specs.declared.Head.{Head}
 use Rattle.rules.specs.declared.Hole.{Hole}
+use Rattle.rules.specs.declared.Heap.{Heap}
 use Rattle.rules.specs.Fixed.{minSize}
 use Rattle.rules.specs.Kinds.{addrOf, placeOf, place, none}
 use Rattle.rules.specs.Holes.{hole, headAt, putHead, holesFrom, firstOf, putHeads}
+use Rattle.rules.specs.Sound.{most, holes}
 use Rattle.rules.proofs.Cases.{by-eq, by-le}
 use Rattle.rules.proofs.Words.{Bytes, Agree}
 use Rattle.rules.proofs.Heads.{putHead-length, putHead-below, putHead-above, putHead-bytes, head-agree, head-back}
+use Rattle.rules.proofs.Walk.{Fair}
 use Rattle.rules.proofs.Rises.{Rises, rises-le}
 
 -- ---- head by head
@@ -31,7 +34,7 @@ unfolding holesFrom
 from-step n base m p h = rw (ne-eqb (p .0) (none .0) h, holesFrom)
 
 -- no place, or a place
-by-none {ℓ} : {X : Type ℓ} (p : Place) → (p ≡ none → X) → ((p .0 ≡ none .0 → ⊥) → X) → X
+pub by-none {ℓ} : {X : Type ℓ} (p : Place) → (p ≡ none → X) → ((p .0 ≡ none .0 → ⊥) → X) → X
 by-none p f g = by-eq (p .0) (none .0) (λ e. f (ap place e)) g
 
 -- there and back through the base
@@ -47,6 +50,11 @@ first-from n base m p =
     by-none p
     (λ e. rw (e, from-none (suc n) base m))
     (λ e. rw (from-step n base m p e) (place-back base p))
+
+-- the holes of a heap that is opened
+pub holes-read : (h : Heap) (m : List ℕ) → Fair h → holes h m ≡ holesFrom (suc (most h)) (h .base) m (h .first)
+unfolding holes
+holes-read h m f = rw (ne-eqb (h .bottom .0) 0 (λ z. omega arith))
 
 -- ---- heads that stand in memory
 

@@ -5,7 +5,6 @@ use mathlib.Core.List.{List, [], _∷_, List·Memᴰ, List·Memᴰ·head, List·
 use Prim.Native.Nat.{ℕ, suc, _+_, _-_, _≤_}
 use native.Mathlib.Omega.{arith}
 use lib.ListN.{length}
-use borrow.Author.Tests.{ne-eqb}
 use Rattle.rules.specs.declared.Addr.{Addr}
 use Rattle.rules.specs.declared.Hole.{Hole}
 use Rattle.rules.specs.declared.Heap.{Heap}
@@ -19,18 +18,17 @@ use Rattle.rules.specs.Demands.{Memory}
 use Rattle.rules.proofs.Cases.{by-le}
 use Rattle.rules.proofs.Walk.{sound-count}
 use Rattle.rules.proofs.Rises.{sound-rises}
-use Rattle.rules.proofs.Lists.{NoHead, putHeads-length, heads-outside, read-back}
+use Rattle.rules.proofs.Lists.{holes-read, NoHead, putHeads-length, heads-outside, read-back}
 use Rattle.rules.proofs.SoundKept.{Stands, outcome-keeps}
 
 -- the heads that are written for a sound heap's holes are read back
 pub stands-read : (h : Heap) (m : List ℕ) (ks : List Hole) → Stands (length m) h ks → h .first ≡ firstOf (h .base) ks
     → holes h (putHeads (h .base) ks m) ≡ ks
-unfolding holes
 stands-read h m ks st e =
     let f = st .fair in
     let count = sound-count h f ks (st .sound) in
     let few : length ks ≤ suc (most h) = omega arith in
-    rw (ne-eqb (h .bottom .0) 0 (λ z. omega (arith, z)), e)
+    rw (holes-read h (putHeads (h .base) ks m) f, e)
     (read-back (suc (most h)) (h .base) (h .bottom .0) (h .top .0) m ks (f .bottom) (omega (arith, st .arena)) (omega arith)
     (sound-rises h f ks (st .sound)) few)
 

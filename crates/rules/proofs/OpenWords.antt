@@ -20,7 +20,8 @@ use Rattle.rules.specs.Outcome.{decided, outcome}
 use Rattle.rules.specs.Demands.{OpenDoes}
 use Rattle.rules.proofs.Cases.{cases, both, any-each, each-all}
 use Rattle.rules.proofs.Walk.{Fair}
-use Rattle.rules.proofs.SoundWords.{left-is, words-gap}
+use Rattle.rules.proofs.SoundWords.{left-is}
+use Rattle.rules.proofs.Gaps.{words-gap}
 use Rattle.rules.proofs.TestWords.{no-start}
 
 pub open-does : OpenDoes

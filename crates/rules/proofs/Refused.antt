@@ -27,6 +27,7 @@ use Rattle.rules.proofs.Cases.{cases, by-test, or-left, any-each}
 use Rattle.rules.proofs.SoundWords.{rounded-rounds, rounds-rounded, sound-words, sound-means}
 use Rattle.rules.proofs.TestWords.{Means, means-eq, means-lt, means-not, means-last, means-rounds, means-power, no-start, no-layout, no-span}
 use Rattle.rules.proofs.Suits.{nothing-room, found-room}
+use Rattle.rules.proofs.Passes.{Passes}
 
 -- ---- rows of words against lists of tests
 
@@ -40,12 +41,8 @@ Meets [] (q ∷ qs) = ⊥
 Meets (t ∷ ts) [] = ⊥
 Meets (t ∷ ts) (q ∷ qs) = (q .gives ≡ t .gives) × Means (any (q .«exactly-if»)) (t .«exactly-if») × Meets ts qs
 
-abbrev Passed : List Test → Type 0
-Passed [] = Unit {0}
-Passed (q ∷ qs) = (any (q .«exactly-if») ≡ false) × Passed qs
-
 -- rows that meet the tests decide, and the rows behind them once the tests are passed
-decides : (ts us : List Row) (qs : List Test) (o : Outcome) → Meets ts qs → (Passed qs → Decides us o) → Decides (ts ++ us) (unless qs o)
+decides : (ts us : List Row) (qs : List Test) (o : Outcome) → Meets ts qs → (Passes qs → Decides us o) → Decides (ts ++ us) (unless qs o)
 unfolding unless
 decides [] us [] o m f = f tt
 decides [] us (q ∷ qs) o m f = absurd m
@@ -76,7 +73,7 @@ extended-passes by h ks =
 module _ (h : Heap) (m : List ℕ) where
   -- 3, 4 and 5, then the others on a sound heap
   opened-decides : (ts us : List Row) (qs : List Test) (o : Outcome) → Meets ts qs
-      → (sound h (holes h m) ≡ true → Passed qs → Decides us o)
+      → (sound h (holes h m) ≡ true → Passes qs → Decides us o)
       → Decides (refusalsOf list h m ++ (ts ++ us)) (unless (openedTests (length m) h (holes h m) ++ qs) o)
   unfolding unless
   opened-decides ts us qs o n f =

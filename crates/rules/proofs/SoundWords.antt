@@ -2,25 +2,25 @@
 use mathlib.Core.Path.{_≡_, refl, sym, ap, _∙_}
 use mathlib.Core.Bool.{true}
 use mathlib.Core.List.{List, [], _∷_, _++_, List·Memᴰ, List·Memᴰ·head, List·Memᴰ·tail, List·Memᴰ·not-nil, List·Memᴰ·cases-cons}
-use mathlib.Core.Logic.{inl, inr, ⊎-elim}
+use mathlib.Core.Logic.{⊎-elim}
 use Prim.Native.Nat.{ℕ, _+_, _-_, _≤_}
 use native.Mathlib.Omega.{arith}
 use native.Mathlib.Nat.{max-le}
 use borrow.Author.Tests.{leb-true, eqb-true, le-leb, eq-eqb}
-use Rattle.rules.specs.declared.Addr.{Addr}
 use Rattle.rules.specs.declared.Hole.{Hole}
 use Rattle.rules.specs.declared.Heap.{Heap}
 use Rattle.rules.specs.Fixed.{minSize, grain}
 use Rattle.rules.specs.Round.{upTo}
 use Rattle.rules.specs.Tests.{all}
-use Rattle.rules.specs.Kinds.{addr, plus, same, notAfter, raised}
+use Rattle.rules.specs.Kinds.{addr, plus, notAfter, raised}
 use Rattle.rules.specs.Holes.{end, total}
 use Rattle.rules.specs.Sound.{numberRules, soundNumbers, gap, holeRules, lie, rise, leaveBefore, leaveAfter, listRules, soundHoles, sound}
 use Rattle.rules.specs.Allocate.{rounded}
 use Rattle.rules.specs.Calls.{left, onlyHole}
 use Rattle.rules.specs.InWords.{Gap, endOf, sum, SoundNumbers, SoundHole, SoundHoles, Sound, Rounds, Left}
 use Rattle.rules.specs.Demands.{SoundMeans}
-use Rattle.rules.proofs.Cases.{cases, and-left, and-right, both, last, all-each, each-all}
+use Rattle.rules.proofs.Cases.{and-left, and-right, both, last, all-each, each-all}
+use Rattle.rules.proofs.Gaps.{gap-words, words-gap}
 use Rattle.rules.proofs.Multiples.{up-is, above-is, down-is, below-is}
 use Rattle.rules.proofs.Powers.{power-pos, grain-power}
 use Rattle.rules.proofs.Layouts.{rounded-is, is-rounded}
@@ -86,19 +86,6 @@ words-numbers h p =
     fair-sound h (omega arith)
 
 -- ---- the rules on the holes
-
-pub gap-words : (lo hi : Addr) → gap lo hi ≡ true → Gap (lo .0) (hi .0)
-unfolding gap
-gap-words lo hi e =
-    cases (same lo hi)
-    (λ q. inl (eqb-true (lo .0) (hi .0) q))
-    (λ q. inr (leb-true (lo .0 + minSize) (hi .0) (last (notAfter (plus lo minSize) hi) (rw q at e))))
-
-pub words-gap : (lo hi : Addr) → Gap (lo .0) (hi .0) → gap lo hi ≡ true
-unfolding gap
-words-gap lo hi (inl e) = rw (eq-eqb (lo .0) (hi .0) e)
-words-gap lo hi (inr l) =
-    cases (same lo hi) (λ q. rw q) (λ q. rw (q, le-leb (lo .0 + minSize) (hi .0) l))
 
 pub lie-words : (h : Heap) (ks : List Hole) → lie h ks ≡ true → (k : Hole) → List·Memᴰ k ks → SoundHole h k
 unfolding lie

@@ -19,8 +19,8 @@ use Rattle.rules.proofs.Cases.{by-eq, by-test, both, apart}
 use Rattle.rules.proofs.Multiples.{multiples-apart, multiple-trans, up-is}
 use Rattle.rules.proofs.Powers.{power-pos, eight-or-more}
 use Rattle.rules.proofs.Rises.{Rises}
-use Rattle.rules.proofs.SoundWords.{words-gap}
-use Rattle.rules.proofs.Used.{find-splits, candidate-leaves, candidate-low, suits-fits, suits-leaves}
+use Rattle.rules.proofs.Gaps.{words-gap, gap-le}
+use Rattle.rules.proofs.Used.{find-splits, candidate-gap, candidate-low, suits-fits, suits-gap}
 
 -- ---- the candidate
 
@@ -74,24 +74,19 @@ module _ (align : ℕ) (a : Addr) (x : ℕ) (p : Power align) (e8 : a .0 % grain
 module _ (r align : ℕ) (k : Hole) where
   pub suits-lies : Power align → suits r align k ≡ true → Lies r align k (candidate align (k .addr) .0)
   suits-lies p e =
-      let c = candidate align (k .addr) .0 in
       let pos = power-pos p in
       record {
         multiple = candidate-multiple align (k .addr) pos;
         from = candidate-low align (k .addr) pos;
         to = suits-fits r align k e;
-        front = by-eq (k .addr .0) c inl (λ n. inr (candidate-leaves align (k .addr) pos n));
-        back = by-eq (c + r) (endOf k) inl (λ n. inr (suits-leaves r align k e n));
+        front = candidate-gap align (k .addr) pos;
+        back = suits-gap r align k e;
       }
 
   -- a block that lies lower, or as low, leaves as much behind it
   lower : (c x : ℕ) → Gap c x → x + r ≤ endOf k → Gap (x + r) (endOf k) → Gap (c + r) (endOf k)
   lower c x (inl e) to back = rw e back
   lower c x (inr l) to back = inr (omega arith)
-
-  gap-le : (c x : ℕ) → Gap c x → c ≤ x
-  gap-le c x (inl e) = omega arith
-  gap-le c x (inr l) = omega arith
 
   pub lies-suits : {x : ℕ} → Power align → k .addr .0 % grain ≡ 0 → Lies r align k x
       → (suits r align k ≡ true) × (candidate align (k .addr) .0 ≤ x)

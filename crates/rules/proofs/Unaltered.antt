@@ -1,23 +1,24 @@
 -- What a call leaves as it was: a refusal everything, a call that only tells heap and memory, every call but list its rows; and that
 -- no more than one outcome meets a promise. Assumes nothing.
 use mathlib.Core.Path.{_≡_, refl, sym, _∙_}
-use mathlib.Core.List.{List, [], _∷_}
-use Prim.Native.Nat.{ℕ, zero, suc, _+_, min}
+use mathlib.Core.List.{List, []}
+use Prim.Native.Nat.{ℕ, _+_, min}
 use lib.Dec.{ltb}
 use lib.ListN.{length, take}
+use lib.Seq.{take-nil}
 use Rattle.rules.specs.declared.Hole.{Hole}
 use Rattle.rules.specs.declared.Heap.{Heap}
 use Rattle.rules.specs.declared.Done.{Done}
 use Rattle.rules.specs.declared.Answer.{Answer}
 use Rattle.rules.specs.Fixed.{minSize}
-use Rattle.rules.specs.Tests.{any}
 use Rattle.rules.specs.Sound.{holes}
 use Rattle.rules.specs.Allocate.{rounded, Found, nothing, found, find}
-use Rattle.rules.specs.Calls.{Call, opening, allocate, free, extend, list, room, Outcome, refused, taken, given, gathered, grown, extended, accepted}
-use Rattle.rules.specs.Refusals.{Test, tests, unless}
+use Rattle.rules.specs.Calls.{Call, opening, allocate, free, extend, list, room, Outcome, taken, given, gathered, grown, extended, accepted}
+use Rattle.rules.specs.Refusals.{tests}
 use Rattle.rules.specs.Outcome.{decided, outcome, leaves, after, Rows, over, inRows, leavesRows, rowsAfter}
 use Rattle.rules.specs.Demands.{RefusalsKeep, TellsOnly, OtherRows, NothingLoose}
 use Rattle.rules.proofs.Cases.{by-test}
+use Rattle.rules.proofs.Passes.{by-passes}
 
 pub refusals-keep : RefusalsKeep
 unfolding after leaves rowsAfter leavesRows
@@ -38,18 +39,11 @@ nothing-loose a d e m w p q = (done-is d (p .0) (p .1) ∙ sym (done-is e (q .0)
 
 none-over : (n : ℕ) (row : List ℕ) → over (take n []) row ≡ row
 unfolding over
-none-over zero row = refl
-none-over (suc n) row = refl
+none-over n row = rw (take-nil {A = ℕ} n)
 
 module _ (r : Rows) where
   abbrev Stays : Outcome → Type 0
   Stays o = leavesRows r o ≡ r
-
-  unless-stays : (qs : List Test) (o : Outcome) → Stays o → Stays (unless qs o)
-  unfolding unless leavesRows
-  unless-stays [] o e = e
-  unless-stays (q ∷ qs) o e =
-      by-test Stays (any (q .«exactly-if»)) (refused (q .gives)) (unless qs o) (λ t. refl) (λ t. unless-stays qs o e)
 
   taken-stays : (s align : ℕ) (h : Heap) (ks : List Hole) (f : Found) → Stays (taken s align h ks f)
   unfolding taken leavesRows
@@ -75,5 +69,6 @@ module _ (r : Rows) where
 pub other-rows : OtherRows
 unfolding rowsAfter outcome decided
 other-rows c h m r n =
-    unless-stays r (tests c (length m) h (holes h m)) (accepted c (length m) h (holes h m))
-    (accepted-stays r c (length m) h (holes h m) n)
+    by-passes (Stays r) (tests c (length m) h (holes h m)) (accepted c (length m) h (holes h m))
+    (λ q. unfold leavesRows in refl)
+    (λ p. accepted-stays r c (length m) h (holes h m) n)
