@@ -6,10 +6,10 @@ use mathlib.Core.List.{List, [], _∷_}
 use Prim.Native.Nat.{ℕ, _+_, _%_, _≤_}
 use native.Mathlib.Omega.{arith}
 use lib.Bits.{bitOr, bitAnd, or-mod, or-add-and, and-le-l, and-le-r}
-use borrow.Author.Tests.{leb-true, le-leb, eqb-true, eq-eqb, ne-eqb}
+use borrow.Author.Tests.{eq-eqb, ne-eqb}
 use denote.Enum.Declared.{tagOf}
 use types.Run.{OneOf}
-use Rattle.rules.specs.Fixed.{minSize, grain}
+use Rattle.rules.specs.Fixed.{grain}
 use Rattle.rules.specs.Tests.{all}
 use Rattle.rules.specs.Kinds.{addrOf, none, isNone}
 use Rattle.rules.specs.Holes.{hole, headAt}

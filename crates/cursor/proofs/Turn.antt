@@ -1,5 +1,5 @@
 -- One turn of a walk: what the step at a place says of the list of holes from there on. Assumes nothing.
-use mathlib.Core.Path.{_≡_, refl, sym, ap, _∙_}
+use mathlib.Core.Path.{_≡_, sym, ap, _∙_}
 use mathlib.Core.Bool.{true, false}
 use mathlib.Core.List.{List, [], _∷_}
 use Prim.Native.Nat.{ℕ, zero, suc, _+_, _-_, _≤_, _<_}
@@ -8,7 +8,7 @@ use lib.Dec.{eqb}
 use borrow.Author.Tests.{eqb-true, eqb-false, eq-eqb, ne-eqb}
 use Rattle.rules.specs.Fixed.{minSize}
 use Rattle.rules.specs.Tests.{all}
-use Rattle.rules.specs.Kinds.{addr, addrOf, placeOf, none, isNone, same}
+use Rattle.rules.specs.Kinds.{addr, placeOf, none, isNone}
 use Rattle.rules.specs.Holes.{headAt, holesFrom, firstOf}
 use Rattle.rules.specs.Sound.{most, holes}
 use Rattle.rules.specs.declared.Addr.{Addr}

@@ -21,11 +21,12 @@ use Rattle.rules.specs.Tests.{any}
 use Rattle.rules.specs.Kinds.{raised}
 use Rattle.rules.specs.Holes.{largest, putHeads}
 use Rattle.rules.specs.Sound.{size, soundNumbers, soundHoles, holes}
-use Rattle.rules.specs.Allocate.{rounded, find}
+use Rattle.rules.specs.Allocate.{find}
 use Rattle.rules.specs.Calls.{Call, opening, allocate, free, extend, list, room, Outcome, refused, told, done, onlyHole, opened, taken, accepted}
-use Rattle.rules.specs.Refusals.{refusal1, refusal6, layoutOf, tests, unless}
+use Rattle.rules.specs.Refusals.{refusal1, layoutOf, tests, unless}
 use Rattle.rules.specs.Outcome.{decided, outcome, leaves, after, Is, Rows, inRows, leavesRows, rowsAfter}
 use Rattle.rules.proofs.Cases.{cases}
+use Rattle.rules.proofs.Layouts.{layout-refused, layout-granted}
 use Rattle.rules.proofs.Walk.{sound-fair}
 use Rattle.rules.proofs.Decide.{sifted, unless-3, unless-4, unless-5, unless-fair, freeing, extending, rest, Opens, decided-later}
 
@@ -102,32 +103,6 @@ module _ (c : Call) (h : Heap) (m : List ℕ) (later : Opens c ≡ false) where
       let f = sound-fair h e in
       decided-later c (length m) h ks later
       ∙ unless-fair (length m) h ks (rest c h ks) (accepted c (length m) h ks) (λ z. omega arith) d e
-
--- ---- the layout that a call names
-
-module _ (s align : ℕ) where
-  pub layout-refused : layoutOf s align ≡ Bad → any (refusal6 s align) ≡ true
-  unfolding layoutOf
-  layout-refused e =
-      cases (any (refusal6 s align))
-      (λ t. t)
-      (λ t.
-      let g : layoutOf s align ≡ Rounded (rounded s) = rw t in
-      let z : _≡_ {A = ℕ} 0 1 = cc in
-      absurd (omega arith))
-
-  pub layout-granted : {w : ℕ} → layoutOf s align ≡ Rounded w → (any (refusal6 s align) ≡ false) × (w ≡ rounded s)
-  unfolding layoutOf
-  layout-granted {w} e =
-      cases (any (refusal6 s align))
-      (λ t.
-      let b : layoutOf s align ≡ Bad = rw t in
-      let z : _≡_ {A = ℕ} 0 1 = cc in
-      absurd (omega arith))
-      (λ t.
-      let g : layoutOf s align ≡ Rounded (rounded s) = rw t in
-      let r : w ≡ rounded s = cc in
-      (t, r))
 
 -- ---- call by call
 

@@ -7,12 +7,12 @@ use mathlib.Core.Logic.{⊎-elim}
 use Prim.Native.Nat.{ℕ, _+_, _-_, _%_, _^_, _<_}
 use native.Mathlib.Omega.{arith}
 use lib.Dec.{eqb, ltb}
-use borrow.Author.Tests.{ltb-false, eqb-true, eq-eqb, not-false}
+use borrow.Author.Tests.{eqb-true, eq-eqb}
 use Rattle.rules.specs.declared.Addr.{Addr}
 use Rattle.rules.specs.declared.Hole.{Hole}
 use Rattle.rules.specs.declared.Heap.{Heap}
 use Rattle.rules.specs.declared.Answer.{Answer}
-use Rattle.rules.specs.Fixed.{addrLimit, minSize, grain}
+use Rattle.rules.specs.Fixed.{minSize, grain}
 use Rattle.rules.specs.Round.{downTo}
 use Rattle.rules.specs.Tests.{any}
 use Rattle.rules.specs.Kinds.{addr, same}
@@ -20,15 +20,14 @@ use Rattle.rules.specs.Holes.{hole, end}
 use Rattle.rules.specs.Sound.{soundHoles}
 use Rattle.rules.specs.Allocate.{rounded, Found, nothing, found, find, split}
 use Rattle.rules.specs.Calls.{Call, opening, allocate, free, extend, list, room, Outcome, done, onlyHole, opened, taken, given, grown, gathered, extended, accepted}
-use Rattle.rules.specs.Refusals.{onePower, refusal6, tests}
+use Rattle.rules.specs.Refusals.{refusal6, tests}
 use Rattle.rules.specs.Outcome.{decided}
 use Rattle.rules.specs.Runs.{Fits, Ask, calls, reads, AllFit, Block, block, sameBlock, without, Box, start, heldAfter, comesTo, boxAfter, nextBox, ends, HonestCall, Honest}
 use Rattle.rules.specs.Demands.{Valid}
-use Rattle.rules.proofs.Cases.{by-test, apart, all-each, each-all, any-each}
-use Rattle.rules.proofs.Layouts.{rounded-least}
+use Rattle.rules.proofs.Cases.{by-test, apart, all-each, each-all}
+use Rattle.rules.proofs.Layouts.{layout-passed}
 use Rattle.rules.proofs.Walk.{Fair}
 use Rattle.rules.proofs.SoundWords.{rounded-rounds, holes-words}
-use Rattle.rules.proofs.TestWords.{means-power}
 use Rattle.rules.proofs.Passes.{by-passes}
 use Rattle.rules.proofs.Used.{find-splits}
 use Rattle.rules.proofs.Suits.{candidate-eight, found-lies}
@@ -100,14 +99,8 @@ start-settled =
     }
 
 passed-valid : (s align : ℕ) → align < 2 ^ 64 → any (refusal6 s align) ≡ false → Valid s align (rounded s)
-passed-valid s align l p =
-    let r = any-each (refusal6 s align) p in
-    record {
-      fits = l;
-      power = means-power align l .0 (not-false (onePower align) (r .0));
-      rounds = rounded-rounds s;
-      room = omega (arith, ltb-false (addrLimit - align) (rounded s) (r .1 .0), rounded-least s);
-    }
+passed-valid s align l e =
+    let v = layout-passed s align l e in record { fits = l; power = v .power; rounds = rounded-rounds s; room = v .room }
 
 -- ---- call by call
 

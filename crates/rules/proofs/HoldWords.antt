@@ -19,8 +19,8 @@ use Rattle.rules.specs.InWords.{number, Hold}
 use Rattle.rules.specs.Demands.{UnopenedIs, HolesMean, BytesStay}
 use Rattle.rules.proofs.Words.{Bytes}
 use Rattle.rules.proofs.Lists.{by-none, from-none, from-step, holes-read, putHeads-bytes}
-use Rattle.rules.proofs.Walk.{sound-fair, sound-count}
-use Rattle.rules.proofs.SoundWords.{words-numbers, words-holes}
+use Rattle.rules.proofs.Walk.{sound-count}
+use Rattle.rules.proofs.SoundWords.{words-fair, words-holes}
 
 pub unopened-is : UnopenedIs
 unopened-is = record { base = refl; len = refl; bottom = refl; top = refl; first = refl; pending = refl; used = refl }
@@ -68,11 +68,11 @@ from-hold (suc n) base m p l =
 pub holes-mean : HolesMean
 holes-mean h m = (
   λ ks s e.
-      let f = sound-fair h (words-numbers h (s .0)) in
+      let f = words-fair h (s .0) in
       let few = sound-count h f ks (words-holes h ks (s .1)) in
       holes-read h m f ∙ hold-from (suc (most h)) (h .base) m (h .first .0) ks (omega arith) e,
   λ s.
-      let f = sound-fair h (words-numbers h (s .0)) in
+      let f = words-fair h (s .0) in
       let few = sound-count h f (holes h m) (words-holes h (holes h m) (s .1)) in
       let r = holes-read h m f in
       rw r (from-hold (suc (most h)) (h .base) m (h .first) (omega (arith, rw r at few))),

@@ -30,8 +30,7 @@ use Rattle.rules.specs.Demands.{FollowsFromCalls, SideBySide, NeverUnsou
 use Rattle.rules.proofs.Cases.{cases, apart, by-test, or-left}
 use Rattle.rules.proofs.Lists.{SameHeads, frame}
 use Rattle.rules.proofs.Decide.{unless-4, rest, Opens}
-use Rattle.rules.proofs.Walk.{fair-sound}
-use Rattle.rules.proofs.SoundWords.{numbers-words, holes-words, words-sound}
+use Rattle.rules.proofs.SoundWords.{fair-words, words-sound}
 use Rattle.rules.proofs.SoundKept.{Keeps, decided-keeps, outcome-keeps}
 use Rattle.rules.proofs.MemoryWords.{stands-read}
 
@@ -177,8 +176,7 @@ after-whole : (c : Call) (n : ℕ) (b : Box) (o : Outcome) → Whole b → Keeps
 unfolding boxAfter
 after-whole c n b (refused r) v k = v
 after-whole c n b (told a ks) v k = v
-after-whole c n b (done a h ks) v k =
-    inr (numbers-words h (fair-sound h (k .0 .fair)), holes-words h ks (k .0 .sound))
+after-whole c n b (done a h ks) v k = inr (fair-words h ks (k .0 .fair) (k .0 .sound))
 
 pub call-whole : (c : Call) (r : Rows) (n : ℕ) (b : Box) → Fits c → Whole b → Whole (nextBox (calls c r n) b)
 unfolding nextBox

@@ -4,14 +4,13 @@ use mathlib.Core.Bool.{true, false}
 use mathlib.Core.List.{List, _++_}
 use Prim.Native.Nat.{ℕ, _+_, _-_, _%_, _≤_}
 use native.Mathlib.Omega.{arith}
-use lib.Count.{onesIn}
 use lib.Dec.{ltb, eqb}
 use lib.ListN.{length}
 use borrow.Author.Tests.{ltb-true, ltb-false, eqb-true, not-false}
 use Rattle.rules.specs.declared.Addr.{Addr}
 use Rattle.rules.specs.declared.Hole.{Hole}
 use Rattle.rules.specs.declared.Heap.{Heap}
-use Rattle.rules.specs.Fixed.{minSize, grain, width}
+use Rattle.rules.specs.Fixed.{minSize, grain}
 use Rattle.rules.specs.Round.{Power, downTo}
 use Rattle.rules.specs.Tests.{any}
 use Rattle.rules.specs.Holes.{hole, firstOf}
@@ -19,15 +18,14 @@ use Rattle.rules.specs.Sound.{soundNumbers, soundHoles, sound, holes}
 use Rattle.rules.specs.Allocate.{rounded, Found, nothing, found, find, split}
 use Rattle.rules.specs.Free.{freed}
 use Rattle.rules.specs.Calls.{Call, opening, allocate, free, extend, list, room, Outcome, refused, told, done, opened, taken, given, grown, gathered, extended, accepted}
-use Rattle.rules.specs.Refusals.{refusal4, refusal5, refusal8, onePower, tests}
+use Rattle.rules.specs.Refusals.{refusal4, refusal5, refusal8, tests}
 use Rattle.rules.specs.Outcome.{decided, outcome}
 use Rattle.rules.specs.Runs.{Fits}
 use Rattle.rules.specs.Demands.{SoundKept}
 use Rattle.rules.proofs.Cases.{by-test, and-left, and-right, or-left}
-use Rattle.rules.proofs.Powers.{one-power}
-use Rattle.rules.proofs.Layouts.{rounded-multiple, rounded-least}
-use Rattle.rules.proofs.Walk.{Fair, sound-fair, fair-sound, sound-count}
-use Rattle.rules.proofs.SoundWords.{numbers-words, holes-words}
+use Rattle.rules.proofs.Layouts.{rounded-multiple, rounded-least, layout-passed}
+use Rattle.rules.proofs.Walk.{Fair, sound-fair, sound-count}
+use Rattle.rules.proofs.SoundWords.{fair-words}
 use Rattle.rules.proofs.AllocateKept.{allocate-kept}
 use Rattle.rules.proofs.FreeKept.{renewed-fair, free-sound, gather-fair, gather-sound, grow-fair, grow-sound}
 use Rattle.rules.proofs.OpenWords.{opened-fair, opened-sound}
@@ -130,9 +128,8 @@ decided-keeps (allocate s align) len h ks f =
     by-passes (Keeps len) (tests (allocate s align) len h ks) _ (λ r. tt)
     (λ p.
     let st = passed-stands len h ks (p .1 .0) (p .1 .1 .0) in
-    let one = eqb-true (onesIn width align) 1 (not-false (onePower align) (or-left _ _ (p .1 .1 .1 .0))) in
-    taken-keeps len h ks st (rounded s) align (find (rounded s) align ks) (one-power width align (f .1) one) (rounded-multiple s)
-    (rounded-least s) refl)
+    taken-keeps len h ks st (rounded s) align (find (rounded s) align ks) (layout-passed s align (f .1) (p .1 .1 .1 .0) .power)
+    (rounded-multiple s) (rounded-least s) refl)
 decided-keeps (free x s align) len h ks f =
     by-passes (Keeps len) (tests (free x s align) len h ks) _ (λ r. tt)
     (λ p.
@@ -153,4 +150,4 @@ outcome-keeps c h m f = decided-keeps c (length m) h (holes h m) f
 pub sound-kept : SoundKept
 sound-kept c h m a h′ ks f e =
     let st = (rw e at (outcome-keeps c h m f)) .0 in
-    ((numbers-words h′ (fair-sound h′ (st .fair)), holes-words h′ ks (st .sound)), sound-count h′ (st .fair) ks (st .sound))
+    (fair-words h′ ks (st .fair) (st .sound), sound-count h′ (st .fair) ks (st .sound))

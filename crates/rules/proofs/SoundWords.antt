@@ -24,7 +24,7 @@ use Rattle.rules.proofs.Gaps.{gap-words, words-gap}
 use Rattle.rules.proofs.Multiples.{up-is, above-is, down-is, below-is}
 use Rattle.rules.proofs.Powers.{power-pos, grain-power}
 use Rattle.rules.proofs.Layouts.{rounded-is, is-rounded}
-use Rattle.rules.proofs.Walk.{sound-fair, fair-sound}
+use Rattle.rules.proofs.Walk.{Fair, sound-fair, fair-sound}
 
 -- ---- the roundings
 
@@ -80,10 +80,13 @@ numbers-words h e =
       fits = f .fits;
     }
 
-pub words-numbers : (h : Heap) → SoundNumbers h → soundNumbers h ≡ true
-words-numbers h p =
+pub words-fair : (h : Heap) → SoundNumbers h → Fair h
+words-fair h p =
     let b : h .bottom .0 ≡ upTo grain (h .base .0) = above-is (power-pos grain-power) (p .bottom) in
-    fair-sound h (omega arith)
+    omega arith
+
+pub words-numbers : (h : Heap) → SoundNumbers h → soundNumbers h ≡ true
+words-numbers h p = fair-sound h (words-fair h p)
 
 -- ---- the rules on the holes
 
@@ -198,6 +201,9 @@ sound-words h ks e = (
 pub words-sound : (h : Heap) (ks : List Hole) → Sound h ks → sound h ks ≡ true
 unfolding sound
 words-sound h ks p = both (words-numbers h (p .0)) (words-holes h ks (p .1))
+
+pub fair-words : (h : Heap) (ks : List Hole) → Fair h → soundHoles h ks ≡ true → Sound h ks
+fair-words h ks f e = (numbers-words h (fair-sound h f), holes-words h ks e)
 
 pub sound-means : SoundMeans
 sound-means h ks = (sound-words h ks, words-sound h ks)

@@ -36,8 +36,11 @@ means-eq a b = (eqb-true a b, eq-eqb a b)
 pub means-lt : (a b : ℕ) → Means (ltb a b) (a < b)
 means-lt a b = (ltb-true a b, lt-ltb a b)
 
+pub means-fails : {b : Bool} {P : Type 0} → Means b P → (P → ⊥) → b ≡ false
+means-fails {b} m n = cases b (λ e. absurd (n (m .0 e))) (λ e. e)
+
 pub means-not : {b : Bool} {P : Type 0} → Means b P → Means (not b) (P → ⊥)
-means-not {b} m = (λ e p. apart (m .1 p) (not-true b e), λ n. cases b (λ e. absurd (n (m .0 e))) (λ e. rw e))
+means-not {b} m = (λ e p. apart (m .1 p) (not-true b e), λ n. rw (means-fails m n))
 
 pub means-both : {b c : Bool} {P Q : Type 0} → Means b P → Means c Q → Means (all (b ∷ c ∷ [])) (P × Q)
 means-both {b} {c} m n = (
