@@ -21,7 +21,8 @@ use Rattle.rules.proofs.Cases.{cases, by-eq}
 use Rattle.rules.proofs.Powers.{power-pos}
 use Rattle.rules.proofs.Walk.{Fair, behind, walks, floorOf, walks-head, walks-tail, walks-cons, sound-walk, sound-sum, walk-sound}
 use Rattle.rules.proofs.Floors.{walks-lower, walks-first, raised-walk}
-use Rattle.rules.proofs.Used.{find-splits, used-total}
+use Rattle.rules.proofs.Sums.{used-total}
+use Rattle.rules.proofs.Used.{find-splits, candidate-low, suits-fits}
 use Rattle.rules.proofs.Suits.{candidate-eight, suits-lies}
 
 -- ---- what is left of a hole
@@ -113,4 +114,4 @@ allocate-kept h r align ks front back k f p r8 r16 sound e =
     let sound′ = rw (parts .0) at sound in
     walk-sound h′ f′ new
     (raised-walk h h′ new refl (inl refl) (used-floor h r align k p r8 r16 (parts .1) front back f (sound-walk h f old sound′)))
-    (omega (arith, sound-sum h f old sound′, used-total r align k (parts .1) (power-pos p) front back))
+    (omega (arith, sound-sum h f old sound′, used-total r align k (candidate-low align (k .addr) (power-pos p)) (suits-fits r align k (parts .1)) front back))

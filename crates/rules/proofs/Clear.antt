@@ -39,11 +39,6 @@ eight-append g [] ys = refl
 eight-append g (k ∷ xs) ys =
     rw (eight-append g xs ys) (sym (or-assoc (near g k) (eightToHole g xs) (eightToHole g ys)))
 
-pub total-append : (xs ys : List Hole) → total (xs ++ ys) ≡ total xs + total ys
-unfolding total
-total-append [] ys = omega arith
-total-append (k ∷ xs) ys = omega (arith, total-append xs ys)
-
 -- ---- a hole stands against it, wherever it lies in the list
 
 module _ (g k : Hole) (front back : List Hole) where

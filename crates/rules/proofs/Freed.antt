@@ -5,10 +5,8 @@ use Prim.Native.Nat.{ℕ, _+_, _≤_, _<_}
 use native.Mathlib.Omega.{arith}
 use borrow.Author.Tests.{le-ltb, lt-ltb, eq-eqb, ne-eqb}
 use Rattle.rules.specs.declared.Hole.{Hole}
-use Rattle.rules.specs.Kinds.{before}
-use Rattle.rules.specs.Holes.{end, total}
-use Rattle.rules.specs.Free.{touch, joined, inFront, freed}
-use Rattle.rules.proofs.Cases.{by-test}
+use Rattle.rules.specs.Holes.{end}
+use Rattle.rules.specs.Free.{joined, inFront, freed}
 use Rattle.rules.proofs.Rises.{Rises, rises-le, endOr, rises-front, rises-back}
 
 -- the first of the holes, if there is one, lies past n
@@ -36,14 +34,6 @@ inFront-apart g (k ∷ ks) p = rw (ne-eqb (end g .0) (k .addr .0) (λ e. omega (
 pub inFront-touch : (g k : Hole) (ks : List Hole) → end g .0 ≡ k .addr .0 → inFront g (k ∷ ks) ≡ joined g k ∷ ks
 unfolding inFront
 inFront-touch g k ks e = rw (eq-eqb (end g .0) (k .addr .0) e)
-
-pub inFront-total : (g : Hole) (ks : List Hole) → total (inFront g ks) ≡ total ks + g .size
-unfolding inFront total
-inFront-total g [] = omega arith
-inFront-total g (k ∷ ks) =
-    by-test (λ (js : List Hole). total js ≡ (k .size + total ks) + g .size) (touch g k) (joined g k ∷ ks) (g ∷ k ∷ ks)
-    (λ e. omega arith)
-    (λ e. omega arith)
 
 -- ---- among holes
 
@@ -83,16 +73,3 @@ freed-touch lo hi g k (j ∷ front) back r e =
     let u = rises-le a (endOr a front) front (rises-front a hi front (k ∷ []) (r .2)) in
     let v = rises-back a hi front (k ∷ []) (r .2) in
     rw (freed-step g j (front ++ (k ∷ back)) (omega arith), freed-touch a hi g k front back (r .2) e)
-
-pub freed-total : (g : Hole) (ks : List Hole) → total (freed g ks) ≡ total ks + g .size
-unfolding freed total
-freed-total g [] = omega arith
-freed-total g (k ∷ ks) =
-    let ih = freed-total g ks in
-    by-test (λ (js : List Hole). total js ≡ (k .size + total ks) + g .size) (before (g .addr) (k .addr))
-    (inFront g (k ∷ ks)) _
-    (λ e. inFront-total g (k ∷ ks))
-    (λ e.
-    by-test (λ (js : List Hole). total js ≡ (k .size + total ks) + g .size) (touch k g) (inFront (joined k g) ks) (k ∷ freed g ks)
-    (λ t. omega (arith, inFront-total (joined k g) ks))
-    (λ t. omega arith))

@@ -2,7 +2,7 @@
 -- its address suits it. Assumes nothing.
 use mathlib.Core.Path.{_≡_, refl, ap}
 use mathlib.Core.Bool.{true, false}
-use mathlib.Core.List.{List, [], _∷_, _++_, List·Memᴰ, List·Memᴰ·head, List·Memᴰ·tail, List·Memᴰ·not-nil, List·Memᴰ·cases-cons, Memᴰ·append-right}
+use mathlib.Core.List.{List, [], _∷_, List·Memᴰ, List·Memᴰ·head, List·Memᴰ·tail, List·Memᴰ·not-nil, List·Memᴰ·cases-cons, Memᴰ·append-right}
 use mathlib.Core.Logic.{⊎-elim}
 use Prim.Native.Nat.{ℕ, _+_, _-_, _%_, _^_, _<_}
 use native.Mathlib.Omega.{arith}
@@ -18,7 +18,7 @@ use Rattle.rules.specs.Tests.{any}
 use Rattle.rules.specs.Kinds.{addr, same}
 use Rattle.rules.specs.Holes.{hole, end}
 use Rattle.rules.specs.Sound.{soundHoles}
-use Rattle.rules.specs.Allocate.{rounded, Found, nothing, found, find, split}
+use Rattle.rules.specs.Allocate.{rounded, Found, nothing, found, find}
 use Rattle.rules.specs.Calls.{Call, opening, allocate, free, extend, list, room, Outcome, done, onlyHole, opened, taken, given, grown, gathered, extended, accepted}
 use Rattle.rules.specs.Refusals.{refusal6, tests}
 use Rattle.rules.specs.Outcome.{decided}
@@ -32,7 +32,8 @@ use Rattle.rules.proofs.Passes.{by-passes}
 use Rattle.rules.proofs.Used.{find-splits}
 use Rattle.rules.proofs.Suits.{candidate-eight, found-lies}
 use Rattle.rules.proofs.SoundKept.{passed-stands}
-use Rattle.rules.proofs.Cover.{once, cover, once-behind, joined-once, cover-append, freed-cover, split-cover}
+use Rattle.rules.proofs.Sums.{added, freed-added, used-added}
+use Rattle.rules.proofs.Cover.{once, cover, once-behind, joined-once, once-adds}
 use Rattle.rules.proofs.Tiling.{span, spans, range, Filled}
 
 -- ---- the held blocks, one taken out
@@ -58,7 +59,7 @@ block-same b =
 
 without-cover : (y : ℕ) (b : Block) (bs : List Block) → List·Memᴰ b bs
     → cover y (spans (without b bs)) + once y (span b) ≡ cover y (spans bs)
-unfolding without cover
+unfolding without added
 without-cover y b [] m = absurd (List·Memᴰ·not-nil m)
 without-cover y b (c ∷ cs) m =
     by-test (λ (ds : List Block). cover y (spans ds) + once y (span b) ≡ once y (span c) + cover y (spans cs)) (sameBlock b c) cs
@@ -91,7 +92,7 @@ pub record Settled (b : Box) : Type 0 where
   pub each : (k : Block) → List·Memᴰ k (b .held) → Suited k
 
 pub start-settled : Settled start
-unfolding cover
+unfolding added
 start-settled =
     record {
       filled = λ y. omega (arith, once-behind y (hole (addr 0) 0) (omega arith));
@@ -108,7 +109,7 @@ module _ (b : Box) (settled : Settled b) where
   taken-settled : (s align : ℕ) (f : Found) → Valid s align (rounded s) → soundHoles (b .heap) (b .holes) ≡ true
       → find (rounded s) align (b .holes) ≡ f
       → Settled (boxAfter (allocate s align) b (taken (rounded s) align (b .heap) (b .holes) f))
-  unfolding taken boxAfter heldAfter cover
+  unfolding taken boxAfter heldAfter added
   taken-settled s align nothing v sound e = settled
   taken-settled s align (found front k back) v sound e =
       let r = rounded s in
@@ -121,10 +122,7 @@ module _ (b : Box) (settled : Settled b) where
             omega (
               arith,
               rw (parts .0) at (settled .filled y),
-              cover-append y front (k ∷ back),
-              cover-append y front (split r align k ++ back),
-              cover-append y (split r align k) back,
-              split-cover y r align k lies,
+              used-added (once-adds y) r align k (lies .from) (lies .to) front back,
             );
         each =
             λ j m.
@@ -144,7 +142,7 @@ module _ (b : Box) (settled : Settled b) where
             omega (
               arith,
               settled .filled y,
-              freed-cover y (hole x (rounded s)) (b .holes),
+              freed-added (once-adds y) (hole x (rounded s)) (b .holes),
               without-cover y (block x s align) (b .held) m,
             );
         each = λ j t. settled .each j (without-member (block x s align) (b .held) j t);
@@ -165,7 +163,7 @@ module _ (b : Box) (settled : Settled b) where
             omega (
               arith,
               settled .filled y,
-              freed-cover y (hole (h .top) s) (b .holes),
+              freed-added (once-adds y) (hole (h .top) s) (b .holes),
               rw size at (joined-once y (range h) (hole (h .top) s) (omega arith)),
             );
         each = settled .each;
@@ -173,7 +171,7 @@ module _ (b : Box) (settled : Settled b) where
 
 opened-settled : (b : Box) (len : ℕ) (base : Addr) (named : ℕ)
     → Settled (boxAfter (opening base named) b (accepted (opening base named) len (b .heap) (b .holes)))
-unfolding accepted boxAfter heldAfter opened cover
+unfolding accepted boxAfter heldAfter opened added
 opened-settled b len base named =
     let k = onlyHole base named in
     let size : end k .0 - k .addr .0 ≡ k .size = omega arith in

@@ -16,6 +16,8 @@ pub mod Gaps
 pub mod Walk
 pub mod Floors
 pub mod Rises
+-- what adds up over the holes
+pub mod Sums
 -- the used hole
 pub mod Used
 -- the freed span: where it goes and what it joins, what stands against it
@@ -42,6 +44,7 @@ pub mod Suits
 pub mod Good
 pub mod Lowest
 -- the other calls
+pub mod Cover
 pub mod Vacancy
 pub mod FreeWords
 pub mod OpenWords
@@ -56,7 +59,6 @@ pub mod MemoryWords
 -- demand 3: runs
 pub mod RunLaws
 -- demand 3: held blocks
-pub mod Cover
 pub mod Tiling
 pub mod HeldKept
 pub mod HeldRuns

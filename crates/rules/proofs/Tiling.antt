@@ -16,8 +16,8 @@ use Rattle.rules.specs.Runs.{Block, Box}
 use Rattle.rules.specs.Demands.{Occupied, Tiles}
 use Rattle.rules.proofs.Cases.{by-le}
 use Rattle.rules.proofs.SoundWords.{rounded-rounds, rounds-rounded}
-use Rattle.rules.proofs.Vacancy.{Inside}
-use Rattle.rules.proofs.Cover.{once, cover, once-in, once-inside, once-most, cover-append, cover-member, cover-two, vacant-cover, cover-vacant}
+use Rattle.rules.proofs.Sums.{added, added-append}
+use Rattle.rules.proofs.Cover.{Inside, once, cover, once-in, once-inside, once-most, cover-member, cover-two, vacant-cover, cover-vacant}
 
 -- the stretches cover each address of the range once, and no other
 abbrev pub Fills : Hole → List Hole → Type 0
@@ -106,7 +106,7 @@ abbrev pub Filled : Box → Type 0
 Filled b = (y : ℕ) → cover y (b .holes) + cover y (spans (b .held)) ≡ once y (range (b .heap))
 
 pub filled-fills : (b : Box) → Filled b → Fills (range (b .heap)) (parts b)
-filled-fills b f y = cover-append y (b .holes) (spans (b .held)) ∙ f y
+filled-fills b f y = added-append (once y) (b .holes) (spans (b .held)) ∙ f y
 
 -- ---- in the paper's words
 
@@ -119,11 +119,11 @@ vacant-occupied bs y (k, m, w) =
     (t .0, t .1, rounded (t .0 .size), rounded-rounds (t .0 .size), rw (← t .2) at w)
 
 spans-append : (y : ℕ) (xs ys : List Block) → cover y (spans (xs ++ ys)) ≡ cover y (spans xs) + cover y (spans ys)
-spans-append y xs ys = rw (map-append span xs ys) (cover-append y (spans xs) (spans ys))
+spans-append y xs ys = rw (map-append span xs ys) (added-append (once y) (spans xs) (spans ys))
 
 spans-two : (y : ℕ) (front mid back : List Block) (c d : Block)
     → once y (span c) + once y (span d) ≤ cover y (spans (front ++ (c ∷ (mid ++ (d ∷ back)))))
-unfolding cover
+unfolding added
 spans-two y front mid back c d =
     omega (arith, spans-append y front (c ∷ (mid ++ (d ∷ back))), spans-append y mid (d ∷ back))
 

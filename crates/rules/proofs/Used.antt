@@ -18,7 +18,7 @@ use Rattle.rules.proofs.Cases.{by-test, and-left, and-right}
 use Rattle.rules.proofs.Gaps.{gap-words, gap-le, gap-apart}
 use Rattle.rules.proofs.Multiples.{up-is}
 use Rattle.rules.proofs.Rises.{Rises, rises-widen, endOr, rises-front, rises-back, rises-append}
-use Rattle.rules.proofs.Clear.{total-append}
+use Rattle.rules.proofs.Sums.{total-append}
 
 -- ---- the first suiting hole
 
@@ -87,13 +87,6 @@ remains-rises lo hi g =
     (λ e. omega (arith, eqb-true (lo .0) (hi .0) e))
     (λ e. let w = gap-apart (lo .0) (hi .0) g (eqb-false (lo .0) (hi .0) e) in omega arith)
 
-remains-total : (lo hi : Addr) → total (remains lo hi) ≡ bytesTo lo hi
-unfolding remains total
-remains-total lo hi =
-    by-test (λ (ks : List Hole). total ks ≡ bytesTo lo hi) (same lo hi) [] (hole lo (bytesTo lo hi) ∷ [])
-    (λ e. omega (arith, eqb-true (lo .0) (hi .0) e))
-    (λ e. omega arith)
-
 module _ (s align : ℕ) (k : Hole) (suit : suits s align k ≡ true) (pos : 0 < align) where
   pub split-rises : Rises (k .addr .0) (end k .0) (split s align k)
   unfolding split
@@ -104,20 +97,6 @@ module _ (s align : ℕ) (k : Hole) (suit : suits s align k ≡ true) (pos : 0 <
       rises-append (k .addr .0) (c .0) (end k .0) (remains (k .addr) c) (remains (plus c s) (end k)) front
       (rises-widen (c .0) (c .0 + s) (end k .0) (end k .0) (remains (plus c s) (end k)) (omega arith) (omega arith) back)
 
-  -- the block and what is left fill the hole
-  pub split-total : total (split s align k) + s ≡ k .size
-  unfolding split
-  split-total =
-      let c = candidate align (k .addr) in
-      omega (
-        arith,
-        total-append (remains (k .addr) c) (remains (plus c s) (end k)),
-        remains-total (k .addr) c,
-        remains-total (plus c s) (end k),
-        suits-fits s align k suit,
-        candidate-low align (k .addr) pos,
-      )
-
   -- in its place among the holes
   pub used-rises : (lo hi : ℕ) (front back : List Hole) → Rises lo hi (front ++ (k ∷ back))
       → Rises lo hi (front ++ (split s align k ++ back))
@@ -127,17 +106,6 @@ module _ (s align : ℕ) (k : Hole) (suit : suits s align k ≡ true) (pos : 0 <
       (rises-append (endOr lo front) (end k .0) hi (split s align k) back
       (rises-widen (endOr lo front) (k .addr .0) (end k .0) (end k .0) (split s align k) (q .0) (omega arith) split-rises)
       (q .2))
-
-  pub used-total : (front back : List Hole) → total (front ++ (split s align k ++ back)) + s ≡ total (front ++ (k ∷ back))
-  unfolding total
-  used-total front back =
-      omega (
-        arith,
-        total-append front (split s align k ++ back),
-        total-append (split s align k) back,
-        total-append front (k ∷ back),
-        split-total,
-      )
 
 -- ---- the room for the block
 
