@@ -21,14 +21,13 @@ use Rattle.rules.specs.Sound.{soundHoles}
 use Rattle.rules.specs.Allocate.{rounded, Found, nothing, found, find}
 use Rattle.rules.specs.Calls.{Call, opening, allocate, free, extend, list, room, Outcome, done, onlyHole, opened, taken, given, grown, gathered, extended, accepted}
 use Rattle.rules.specs.Refusals.{refusal6, tests}
-use Rattle.rules.specs.Outcome.{decided}
 use Rattle.rules.specs.Runs.{Fits, Ask, calls, reads, AllFit, Block, block, sameBlock, without, Box, start, heldAfter, comesTo, boxAfter, nextBox, ends, HonestCall, Honest}
 use Rattle.rules.specs.Demands.{Valid}
 use Rattle.rules.proofs.Cases.{by-test, apart, all-each, each-all}
 use Rattle.rules.proofs.Layouts.{layout-passed}
 use Rattle.rules.proofs.Walk.{Fair}
 use Rattle.rules.proofs.SoundWords.{rounded-rounds, holes-words}
-use Rattle.rules.proofs.Passes.{by-passes}
+use Rattle.rules.proofs.Passes.{Passes, by-decided}
 use Rattle.rules.proofs.Used.{find-splits}
 use Rattle.rules.proofs.Suits.{candidate-eight, found-lies}
 use Rattle.rules.proofs.SoundKept.{passed-stands}
@@ -179,43 +178,36 @@ opened-settled b len base named =
 
 -- ---- any call that is honest
 
+-- a refusal changes no box
+settles : (c : Call) (n : ℕ) (b : Box) → Settled b
+    → (Passes (tests c n (b .heap) (b .holes)) → Settled (boxAfter c b (accepted c n (b .heap) (b .holes))))
+    → Settled (boxAfter c b (comesTo c n b))
+settles c n b settled =
+    by-decided (λ (o : Outcome). Settled (boxAfter c b o)) c n (b .heap) (b .holes) (λ r. unfold boxAfter in settled)
+
 call-settled : (c : Call) (n : ℕ) (b : Box) → Fits c → HonestCall c n b → Settled b → Settled (boxAfter c b (comesTo c n b))
-unfolding decided tests boxAfter
-call-settled (opening base named) n b f t settled =
-    by-passes (λ (o : Outcome). Settled (boxAfter (opening base named) b o)) (tests (opening base named) n (b .heap) (b .holes)) _
-    (λ r. settled)
-    (λ p. opened-settled b n base named)
+unfolding tests boxAfter accepted
+call-settled (opening base named) n b f t settled = settles (opening base named) n b settled (λ p. opened-settled b n base named)
 call-settled (allocate s align) n b f t settled =
-    by-passes (λ (o : Outcome). Settled (boxAfter (allocate s align) b o)) (tests (allocate s align) n (b .heap) (b .holes)) _
-    (λ r. settled)
+    settles (allocate s align) n b settled
     (λ p.
-    unfold accepted in
     taken-settled b settled s align (find (rounded s) align (b .holes)) (passed-valid s align (f .1) (p .1 .1 .1 .0))
     (passed-stands n (b .heap) (b .holes) (p .1 .0) (p .1 .1 .0) .sound)
     refl)
 call-settled (free x s align) n b f t settled =
-    by-passes
+    by-decided
     (λ (o : Outcome).
     ((a : Answer) (h : Heap) (ks : List Hole) → o ≡ done a h ks → List·Memᴰ (block x s align) (b .held))
     → Settled (boxAfter (free x s align) b o))
-    (tests (free x s align) n (b .heap) (b .holes)) _
+    (free x s align) n (b .heap) (b .holes)
     (λ r q. settled)
-    (λ p q. unfold accepted in given-settled b settled x s align (unfold accepted given in q _ _ _ refl))
+    (λ p q. given-settled b settled x s align (unfold given in q _ _ _ refl))
     t
 call-settled (extend by) n b f t settled =
-    by-passes (λ (o : Outcome). Settled (boxAfter (extend by) b o)) (tests (extend by) n (b .heap) (b .holes)) _
-    (λ r. settled)
-    (λ p.
-    unfold accepted in
-    extended-settled b settled by (passed-stands n (b .heap) (b .holes) (p .1 .0) (p .1 .1 .0) .fair))
-call-settled list n b f t settled =
-    by-passes (λ (o : Outcome). Settled (boxAfter list b o)) (tests list n (b .heap) (b .holes)) _
-    (λ r. settled)
-    (λ p. unfold accepted in settled)
-call-settled room n b f t settled =
-    by-passes (λ (o : Outcome). Settled (boxAfter room b o)) (tests room n (b .heap) (b .holes)) _
-    (λ r. settled)
-    (λ p. unfold accepted in settled)
+    settles (extend by) n b settled
+    (λ p. extended-settled b settled by (passed-stands n (b .heap) (b .holes) (p .1 .0) (p .1 .1 .0) .fair))
+call-settled list n b f t settled = settles list n b settled (λ p. settled)
+call-settled room n b f t settled = settles room n b settled (λ p. settled)
 
 pub ends-settled : (asks : List Ask) (b : Box) → AllFit asks → Honest asks b → Settled b → Settled (ends asks b)
 unfolding ends nextBox

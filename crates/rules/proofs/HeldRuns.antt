@@ -26,7 +26,7 @@ use Rattle.rules.proofs.Layouts.{rounded-least}
 use Rattle.rules.proofs.SoundWords.{rounded-rounds}
 use Rattle.rules.proofs.TestWords.{means-fails, no-span}
 use Rattle.rules.proofs.Good.{sound-decided, valid-passes}
-use Rattle.rules.proofs.Passes.{by-passes}
+use Rattle.rules.proofs.Passes.{Passes, by-decided}
 use Rattle.rules.proofs.SoundKept.{sound-kept}
 use Rattle.rules.proofs.MemoryWords.{memory}
 use Rattle.rules.proofs.Unaltered.{refusals-keep, tells-only}
@@ -131,18 +131,18 @@ module _ (h : Heap) (ks : List Hole) where
   unfolding extended gathered grown
   extended-based by = by-test (Based h) (ltb (h .pending + by) minSize) _ _ (λ e. refl) (λ e. refl)
 
+  accepted-based : (c : Call) (len : ℕ) → (h .bottom .0 ≡ 0 → ⊥) → Passes (tests c len h ks) → Based h (accepted c len h ks)
+  unfolding tests accepted given
+  accepted-based (opening base named) len n p =
+      absurd (n (eqb-true (h .bottom .0) 0 (not-false (same (h .bottom) (addr 0)) (or-left _ _ (p .0)))))
+  accepted-based (allocate s align) len n p = taken-based (rounded s) align (find (rounded s) align ks)
+  accepted-based (free x s align) len n p = refl
+  accepted-based (extend by) len n p = extended-based by
+  accepted-based list len n p = tt
+  accepted-based room len n p = tt
+
   decided-based : (c : Call) (len : ℕ) → (h .bottom .0 ≡ 0 → ⊥) → Based h (decided c len h ks)
-  unfolding decided tests accepted given
-  decided-based (opening base named) len n =
-      by-passes (Based h) (tests (opening base named) len h ks) _ (λ r. tt)
-      (λ p. absurd (n (eqb-true (h .bottom .0) 0 (not-false (same (h .bottom) (addr 0)) (or-left _ _ (p .0))))))
-  decided-based (allocate s align) len n =
-      by-passes (Based h) (tests (allocate s align) len h ks) _ (λ r. tt)
-      (λ p. taken-based (rounded s) align (find (rounded s) align ks))
-  decided-based (free x s align) len n = by-passes (Based h) (tests (free x s align) len h ks) _ (λ r. tt) (λ p. refl)
-  decided-based (extend by) len n = by-passes (Based h) (tests (extend by) len h ks) _ (λ r. tt) (λ p. extended-based by)
-  decided-based list len n = by-passes (Based h) (tests list len h ks) _ (λ r. tt) (λ p. tt)
-  decided-based room len n = by-passes (Based h) (tests room len h ks) _ (λ r. tt) (λ p. tt)
+  decided-based c len n = by-decided (Based h) c len h ks (λ r. tt) (accepted-based c len n)
 
 -- a call writes heads only, and where holes and held blocks tile the heap no head lies in a held block
 module _ (c : Call) (h : Heap) (w : List ℕ) (b : Box) (fit : Fits c) (opened : h .bottom .0 ≡ 0 → ⊥) (y : ℕ) where

@@ -14,11 +14,10 @@ use Rattle.rules.specs.Fixed.{minSize}
 use Rattle.rules.specs.Sound.{holes}
 use Rattle.rules.specs.Allocate.{rounded, Found, nothing, found, find}
 use Rattle.rules.specs.Calls.{Call, opening, allocate, free, extend, list, room, Outcome, taken, given, gathered, grown, extended, accepted}
-use Rattle.rules.specs.Refusals.{tests}
-use Rattle.rules.specs.Outcome.{decided, outcome, leaves, after, Rows, over, inRows, leavesRows, rowsAfter}
+use Rattle.rules.specs.Outcome.{outcome, leaves, after, Rows, over, inRows, leavesRows, rowsAfter}
 use Rattle.rules.specs.Demands.{RefusalsKeep, TellsOnly, OtherRows, NothingLoose}
 use Rattle.rules.proofs.Cases.{by-test}
-use Rattle.rules.proofs.Passes.{by-passes}
+use Rattle.rules.proofs.Passes.{by-decided}
 
 pub refusals-keep : RefusalsKeep
 unfolding after leaves rowsAfter leavesRows
@@ -67,8 +66,8 @@ module _ (r : Rows) where
       rw (none-over k (r .addrs), none-over k (r .sizes))
 
 pub other-rows : OtherRows
-unfolding rowsAfter outcome decided
+unfolding rowsAfter outcome
 other-rows c h m r n =
-    by-passes (Stays r) (tests c (length m) h (holes h m)) (accepted c (length m) h (holes h m))
+    by-decided (Stays r) c (length m) h (holes h m)
     (λ q. unfold leavesRows in refl)
     (λ p. accepted-stays r c (length m) h (holes h m) n)
