@@ -5,6 +5,8 @@ use mathlib.Core.List.{List, [], _∷_}
 use Prim.Native.Nat.{ℕ, zero, suc, _+_, _-_, _≤_, _<_}
 use native.Mathlib.Omega.{arith}
 use lib.Dec.{eqb}
+use denote.Enum.Declared.{tagOf}
+use types.Run.{OneOf}
 use borrow.Author.Tests.{eqb-true, eqb-false, eq-eqb, ne-eqb}
 use Rattle.rules.specs.Fixed.{minSize}
 use Rattle.rules.specs.Tests.{all}
@@ -18,9 +20,11 @@ use Rattle.rules.specs.declared.Heap.{Heap}
 use Rattle.rules.proofs.Cases.{cases}
 use Rattle.rules.proofs.Walk.{Fair, headRules, rules-keep, behind, floorOf, floor-low, floor-high}
 use Rattle.rules.proofs.Lists.{from-none, from-step, place-back, first-from, holes-read}
+use Rattle.cursor.specs.declared.Step.{Step}
 use Rattle.cursor.specs.declared.Step.the-variants as step
 use Rattle.cursor.specs.Walk.{Enough, startOf, lastOf, stepOf}
-use Rattle.cursor.proofs.OneStep.{holeAt, step-none, step-at, step-end, step-bad}
+use Rattle.cursor.proofs.Step as Steps
+use Rattle.cursor.proofs.OneStep.{holeAt, step-none, step-at, step-end, step-bad, no-hole}
 
 -- ---- the list at a place
 
@@ -107,6 +111,27 @@ module _ (h : Heap) (m : List ℕ) (at : Place) (floor : Addr) (n : ℕ) where
       cases (isNone at)
       (λ t. rw (holes-none n h m at t) (sym (step-none h m at floor t) ∙ e))
       (λ t. rw (list-at (more en low) t) (step-bad h m at floor t e))
+
+-- ---- a walk that takes such a turn
+
+module _ (h : Heap) (m : List ℕ) (at : Place) (floor : Addr) (n : ℕ) {A : Type 0} (walk : List Hole → A) where
+  -- what it comes to over the hole and those that are left, it comes to over all of them
+  pub turn-goes : {k : Hole} {q : Place} {whole r : A} (t : Turn h m at floor n k q) → walk (holesFrom n (h .base) m at) ≡ whole
+      → walk (k ∷ holesFrom (t .rest) (h .base) m q) ≡ r → r ≡ whole
+  turn-goes t same e = sym (ap walk (t .list) ∙ e) ∙ same
+
+  -- a step that finds no hole ends it
+  pub turn-stops : Enough h floor n → floor .0 ≤ h .top .0 + minSize
+      → (s : Step) → s ≡ stepOf h m at floor → OneOf (1 ∷ 2 ∷ []) (tagOf Steps.the-type s) → (stopped : Step → A)
+      → (at .0 ≡ none .0 → lastOf h floor ≡ step.End → stopped step.End ≡ walk [])
+      → ((ks : List Hole) → StartsBad h floor ks → stopped step.Bad ≡ walk ks)
+      → stopped s ≡ walk (holesFrom n (h .base) m at)
+  turn-stops en low s is o stopped f g =
+      no-hole s o
+      (λ e.
+      let t = turn-end h m at floor n (sym is ∙ e) in
+      rw (e, t .0) (f (eqb-true (at .0) (none .0) (step-end h m at floor (sym is ∙ e))) (t .1)))
+      (λ e. rw e (g (holesFrom n (h .base) m at) (turn-bad h m at floor n en low (sym is ∙ e))))
 
 -- ---- where a walk starts
 
