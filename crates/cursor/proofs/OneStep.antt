@@ -71,7 +71,7 @@ module _ (h : Heap) (m : List ℕ) (at : Place) (floor : Addr) where
   unfolding stepOf
   step-none e = rw e
 
-  pub step-some : isNone at ≡ false → stepOf h m at floor ≡ headOf h floor (holeAt h m at) (headAt m at .next)
+  step-some : isNone at ≡ false → stepOf h m at floor ≡ headOf h floor (holeAt h m at) (headAt m at .next)
   unfolding stepOf
   step-some e = rw e
 

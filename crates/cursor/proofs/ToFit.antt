@@ -36,7 +36,7 @@ use Rattle.cursor.proofs.Passed.{lastPlace}
 -- ---- the turns of the loop
 
 -- the fit at a hole, with the place of the next one
-abbrev pub fitAt : Cursor → ℕ → ℕ → Hole → Place → Fit
+abbrev fitAt : Cursor → ℕ → ℕ → Hole → Place → Fit
 fitAt cursor total count k next = record { cursor = cursor; hole = k; next = next; count = count + 1; total = total + k .size }
 
 module _ (h : Heap) (want align : ℕ) where

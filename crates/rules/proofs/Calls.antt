@@ -154,7 +154,7 @@ module _ (base : Addr) (named : ℕ) (h : Heap) (m : List ℕ) where
   unfolding outcome decided tests unless
   opening-1 z e = rw (eq-eqb (h .bottom .0) 0 z, e)
 
-  pub opening-on : h .bottom .0 ≡ 0 → any (refusal1 (length m) base named) ≡ false
+  opening-on : h .bottom .0 ≡ 0 → any (refusal1 (length m) base named) ≡ false
       → outcome (opening base named) h m
       ≡ done (Opening (raised grain base) (onlyHole base named .size)) (opened (length m) base named) (onlyHole base named ∷ [])
   unfolding outcome decided tests unless accepted

@@ -147,7 +147,7 @@ clear-none lo hi g front back r a b =
 
 -- ---- the room that the holes leave
 
-pub rises-total : (lo hi : ℕ) (ks : List Hole) → Rises lo hi ks → total ks ≤ hi - lo
+rises-total : (lo hi : ℕ) (ks : List Hole) → Rises lo hi ks → total ks ≤ hi - lo
 unfolding total
 rises-total lo hi [] r = omega arith
 rises-total lo hi (k ∷ ks) r =

@@ -33,7 +33,7 @@ module _ (y : ℕ) (k : Hole) where
   unfolding once
   once-in w = rw (le-leb (k .addr .0) y (w .0), lt-ltb y (end k .0) (w .1))
 
-  pub once-before : y < k .addr .0 → once y k ≡ 0
+  once-before : y < k .addr .0 → once y k ≡ 0
   unfolding once
   once-before l = rw (lt-leb (k .addr .0) y l)
 
@@ -41,7 +41,7 @@ module _ (y : ℕ) (k : Hole) where
   unfolding once
   once-behind l = rw (le-leb (k .addr .0) y (omega arith), le-ltb y (end k .0) l)
 
-  pub by-once {ℓ} : {X : Type ℓ} → (Inside k y → once y k ≡ 1 → X) → (y < k .addr .0 → once y k ≡ 0 → X)
+  by-once {ℓ} : {X : Type ℓ} → (Inside k y → once y k ≡ 1 → X) → (y < k .addr .0 → once y k ≡ 0 → X)
       → (end k .0 ≤ y → once y k ≡ 0 → X) → X
   by-once f g h =
       by-le (k .addr .0) y

@@ -10,7 +10,7 @@ use Rattle.rules.specs.Free.{joined, inFront, freed}
 use Rattle.rules.proofs.Rises.{Rises, rises-le, endOr, rises-front, rises-back}
 
 -- the first of the holes, if there is one, lies past n
-abbrev pub Past : ℕ → List Hole → Type 0
+abbrev Past : ℕ → List Hole → Type 0
 Past n [] = Unit {0}
 Past n (k ∷ ks) = n < k .addr .0
 
@@ -50,7 +50,7 @@ freed-step g k ks l =
     rw (le-ltb (g .addr .0) (k .addr .0) (omega arith), ne-eqb (end k .0) (g .addr .0) (λ e. omega (arith, e)))
 
 -- a span that starts where a hole ends lengthens that hole
-pub joins-before : (g k : Hole) (ks : List Hole) → k .addr .0 ≤ g .addr .0 → end k .0 ≡ g .addr .0
+joins-before : (g k : Hole) (ks : List Hole) → k .addr .0 ≤ g .addr .0 → end k .0 ≡ g .addr .0
     → freed g (k ∷ ks) ≡ inFront (joined k g) ks
 unfolding freed
 joins-before g k ks l e = rw (le-ltb (g .addr .0) (k .addr .0) l, eq-eqb (end k .0) (g .addr .0) e)

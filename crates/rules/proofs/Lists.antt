@@ -103,7 +103,7 @@ holds-from (suc n) base m p l = (
 )
 
 -- and heads that stand are read, where the bounds keep each place apart from no place
-pub from-holds : (n : ℕ) (base : Addr) (lo hi : ℕ) (m : List ℕ) (ks : List Hole)
+from-holds : (n : ℕ) (base : Addr) (lo hi : ℕ) (m : List ℕ) (ks : List Hole)
     → base .0 ≤ lo → hi < 2 ^ 64 - 1 → Rises lo hi ks → length ks ≤ n → Holds base m ks none
     → holesFrom n base m (firstOf base ks) ≡ ks
 unfolding firstOf
@@ -233,7 +233,7 @@ first-lt base lo hi [] q r u l = l
 first-lt base lo hi (k ∷ ks) q r u l = omega (arith, rises-le (k .addr .0 + k .size) hi ks (r .2))
 
 -- the heads that were written stand there
-pub put-holds : (base : Addr) (lo hi : ℕ) (m : List ℕ) (ks : List Hole) (q : Place)
+put-holds : (base : Addr) (lo hi : ℕ) (m : List ℕ) (ks : List Hole) (q : Place)
     → base .0 ≤ lo → hi ≤ base .0 + length m → hi < 2 ^ 64 → q .0 < 2 ^ 64 → Rises lo hi ks
     → Holds base (putHeadsTo base ks q m) ks q
 unfolding putHeadsTo

@@ -41,7 +41,7 @@ no-head-of base i (k ∷ ks) f = (
   no-head-of base i ks (λ j d. f j (List·Memᴰ·tail d)),
 )
 
-pub after-done : (c : Call) (h : Heap) (m : List ℕ) (a : Answer) (h′ : Heap) (ks : List Hole) → outcome c h m ≡ done a h′ ks
+after-done : (c : Call) (h : Heap) (m : List ℕ) (a : Answer) (h′ : Heap) (ks : List Hole) → outcome c h m ≡ done a h′ ks
     → after c h m ≡ record { answer = a; heap = h′; arena = putHeads (h′ .base) ks m }
 unfolding after leaves
 after-done c h m a h′ ks e = rw e

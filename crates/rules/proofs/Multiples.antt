@@ -42,7 +42,7 @@ down-is a x pos =
 pub down-by : {a m : ℕ} (x : ℕ) → 0 < a → m ≡ x % a → Below a x (x - m)
 down-by {a} x pos e = rw e (down-is a x pos)
 
-pub below-one : {a x r s : ℕ} → Below a x r → Below a x s → r ≡ s
+below-one : {a x r s : ℕ} → Below a x r → Below a x s → r ≡ s
 below-one {a} {x} {r} {s} p q =
     let lo : r ≤ s = q .greatest r (p .multiple) (p .below) in
     let hi : s ≤ r = p .greatest s (q .multiple) (q .below) in
@@ -68,7 +68,7 @@ up-is a x pos =
           λ y ey h. by-le (upTo a x) y (λ k. k) (λ k. absurd (omega (arith, multiples-apart a y (upTo a x) ey (b .multiple) k)));
     }
 
-pub above-one : {a x r s : ℕ} → Above a x r → Above a x s → r ≡ s
+above-one : {a x r s : ℕ} → Above a x r → Above a x s → r ≡ s
 above-one {a} {x} {r} {s} p q =
     let lo : s ≤ r = q .least r (p .multiple) (p .above) in
     let hi : r ≤ s = p .least s (q .multiple) (q .above) in

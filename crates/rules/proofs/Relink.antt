@@ -59,13 +59,13 @@ link base [] q m = m
 link base (k ∷ []) q m = putHead m (placeOf base (k .addr)) (record { size = k .size; next = q })
 link base (k ∷ j ∷ js) q m = link base (j ∷ js) q m
 
-pub link-bytes : (base : Addr) (ks : List Hole) (q : Place) (m : List ℕ) → Bytes m → Bytes (link base ks q m)
+link-bytes : (base : Addr) (ks : List Hole) (q : Place) (m : List ℕ) → Bytes m → Bytes (link base ks q m)
 unfolding link
 link-bytes base [] q m s = s
 link-bytes base (k ∷ []) q m s = putHead-bytes m (placeOf base (k .addr)) (record { size = k .size; next = q }) s
 link-bytes base (k ∷ j ∷ js) q m s = link-bytes base (j ∷ js) q m s
 
-pub link-same : (base : Addr) (ks : List Hole) (q : Place) (m : List ℕ) → Bytes m → Holds base m ks q → link base ks q m ≡ m
+link-same : (base : Addr) (ks : List Hole) (q : Place) (m : List ℕ) → Bytes m → Holds base m ks q → link base ks q m ≡ m
 unfolding link
 link-same base [] q m s t = refl
 link-same base (k ∷ []) q m s t = again base m k q s (t .0)
@@ -81,7 +81,7 @@ link-below base lo hi (k ∷ j ∷ js) q m i a r l =
     link-below base (k .addr .0 + k .size) hi (j ∷ js) q m i (omega arith) (r .2) (omega arith)
 
 -- the heads of a list that stands, with a new end: only the last is written
-pub put-link : (base : Addr) (lo hi : ℕ) (ks : List Hole) (p q : Place) (m : List ℕ) → Bytes m → base .0 ≤ lo → Rises lo hi ks
+put-link : (base : Addr) (lo hi : ℕ) (ks : List Hole) (p q : Place) (m : List ℕ) → Bytes m → base .0 ≤ lo → Rises lo hi ks
     → Holds base m ks p → putHeadsTo base ks q m ≡ link base ks q m
 unfolding putHeadsTo link
 put-link base lo hi [] p q m s a r t = refl

@@ -90,7 +90,7 @@ words-numbers h p = fair-sound h (words-fair h p)
 
 -- ---- the rules on the holes
 
-pub lie-words : (h : Heap) (ks : List Hole) → lie h ks ≡ true → (k : Hole) → List·Memᴰ k ks → SoundHole h k
+lie-words : (h : Heap) (ks : List Hole) → lie h ks ≡ true → (k : Hole) → List·Memᴰ k ks → SoundHole h k
 unfolding lie
 lie-words h [] e k m = absurd (List·Memᴰ·not-nil m)
 lie-words h (j ∷ ks) e k m =
@@ -101,7 +101,7 @@ lie-words h (j ∷ ks) e k m =
     (λ n. lie-words h ks (and-right (all (holeRules h j)) (lie h ks) e) k n)
     (List·Memᴰ·cases-cons m)
 
-pub words-lie : (h : Heap) (ks : List Hole) → ((k : Hole) → List·Memᴰ k ks → SoundHole h k) → lie h ks ≡ true
+words-lie : (h : Heap) (ks : List Hole) → ((k : Hole) → List·Memᴰ k ks → SoundHole h k) → lie h ks ≡ true
 unfolding lie
 words-lie h [] f = refl
 words-lie h (k ∷ ks) f =
@@ -123,10 +123,10 @@ rise-at [] back j k e =
     leb-true (endOf j + 16) (k .addr .0) (and-left (notAfter (plus (end j) minSize) (k .addr)) (rise (k ∷ back)) e)
 rise-at (i ∷ front) back j k e = rise-at front back j k (rise-tail i (front ++ (j ∷ k ∷ back)) e)
 
-pub rise-words : (ks : List Hole) → rise ks ≡ true → Apart ks
+rise-words : (ks : List Hole) → rise ks ≡ true → Apart ks
 rise-words ks e front back j k q = rise-at front back j k (rw q at e)
 
-pub words-rise : (ks : List Hole) → Apart ks → rise ks ≡ true
+words-rise : (ks : List Hole) → Apart ks → rise ks ≡ true
 unfolding rise
 words-rise [] f = refl
 words-rise (k ∷ []) f = refl
@@ -135,7 +135,7 @@ words-rise (k ∷ j ∷ js) f =
     (words-rise (j ∷ js) (λ front back i l q. f (k ∷ front) back i l (ap (λ (xs : List Hole). k ∷ xs) q)))
 
 -- the last hole leaves what the list leaves
-pub leaves-last : (h : Heap) (front : List Hole) (k : Hole) → leaveAfter h (front ++ (k ∷ [])) ≡ gap (end k) (h .top)
+leaves-last : (h : Heap) (front : List Hole) (k : Hole) → leaveAfter h (front ++ (k ∷ [])) ≡ gap (end k) (h .top)
 unfolding leaveAfter
 leaves-last h [] k = refl
 leaves-last h (j ∷ []) k = refl
@@ -155,7 +155,7 @@ unfolding leaveBefore
 words-before h [] f = refl
 words-before h (k ∷ ks) f = words-gap (h .bottom) (k .addr) (f k ks refl)
 
-pub sum-total : (ks : List Hole) → sum ks ≡ total ks
+sum-total : (ks : List Hole) → sum ks ≡ total ks
 unfolding total
 sum-total [] = refl
 sum-total (k ∷ ks) = rw (sum-total ks)

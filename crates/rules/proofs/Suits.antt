@@ -24,7 +24,7 @@ use Rattle.rules.proofs.Used.{find-splits, candidate-gap, candidate-low
 
 -- ---- the candidate
 
-pub candidate-multiple : (align : ℕ) (a : Addr) → 0 < align → candidate align a .0 % align ≡ 0
+candidate-multiple : (align : ℕ) (a : Addr) → 0 < align → candidate align a .0 % align ≡ 0
 unfolding candidate
 candidate-multiple align a pos =
     by-test (λ (c : Addr). c .0 % align ≡ 0) (multipleOf align a) a (raised align (plus a minSize))
@@ -62,7 +62,7 @@ module _ (align : ℕ) (a : Addr) (x : ℕ) (p : Power align) (e8 : a .0 % grain
       multiples-gap align (raised align (plus a minSize) .0) x (large align (a .0) p e8 n .0) (up .multiple) ex
       (up .least x ex l)
 
-  pub candidate-lowest : Gap (a .0) x → Gap (candidate align a .0) x
+  candidate-lowest : Gap (a .0) x → Gap (candidate align a .0) x
   unfolding candidate
   candidate-lowest g =
       by-test (λ (c : Addr). Gap (c .0) x) (multipleOf align a) a (raised align (plus a minSize))
@@ -88,7 +88,7 @@ module _ (r align : ℕ) (k : Hole) where
   lower c x (inl e) to back = rw e back
   lower c x (inr l) to back = inr (omega arith)
 
-  pub lies-suits : {x : ℕ} → Power align → k .addr .0 % grain ≡ 0 → Lies r align k x
+  lies-suits : {x : ℕ} → Power align → k .addr .0 % grain ≡ 0 → Lies r align k x
       → (suits r align k ≡ true) × (candidate align (k .addr) .0 ≤ x)
   unfolding suits
   lies-suits {x} p e8 lies =
@@ -107,7 +107,7 @@ module _ (r align : ℕ) (k : Hole) where
 abbrev pub Placed : List Hole → Type 0
 Placed ks = (k : Hole) → List·Memᴰ k ks → k .addr .0 % grain ≡ 0
 
-pub rises-member : (lo hi : ℕ) (ks : List Hole) (k : Hole) → Rises lo hi ks → List·Memᴰ k ks → lo ≤ k .addr .0
+rises-member : (lo hi : ℕ) (ks : List Hole) (k : Hole) → Rises lo hi ks → List·Memᴰ k ks → lo ≤ k .addr .0
 rises-member lo hi [] k s m = absurd (List·Memᴰ·not-nil m)
 rises-member lo hi (j ∷ js) k s m =
     ⊎-elim

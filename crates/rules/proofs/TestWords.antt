@@ -42,7 +42,7 @@ means-fails {b} m n = cases b (λ e. absurd (n (m .0 e))) (λ e. e)
 pub means-not : {b : Bool} {P : Type 0} → Means b P → Means (not b) (P → ⊥)
 means-not {b} m = (λ e p. apart (m .1 p) (not-true b e), λ n. rw (means-fails m n))
 
-pub means-both : {b c : Bool} {P Q : Type 0} → Means b P → Means c Q → Means (all (b ∷ c ∷ [])) (P × Q)
+means-both : {b c : Bool} {P Q : Type 0} → Means b P → Means c Q → Means (all (b ∷ c ∷ [])) (P × Q)
 means-both {b} {c} m n = (
   λ e. let r = all-each (b ∷ c ∷ []) e in (m .0 (r .0), n .0 (r .1 .0)),
   λ p. each-all (b ∷ c ∷ []) (m .1 (p .0), (n .1 (p .1), tt)),
@@ -52,7 +52,7 @@ or-means : {b c : Bool} {P Q : Type 0} → Means b P → Means c Q → P ⊎ Q �
 or-means m n (inl p) = rw (m .1 p)
 or-means {b} m n (inr q) = rw (n .1 q) (or-true b)
 
-pub means-or : {b c : Bool} {P Q : Type 0} → Means b P → Means c Q → Means (b || c) (P ⊎ Q)
+means-or : {b c : Bool} {P Q : Type 0} → Means b P → Means c Q → Means (b || c) (P ⊎ Q)
 means-or {b} m n = (λ e. cases b (λ q. inl (m .0 q)) (λ q. inr (n .0 (rw q at e))), or-means m n)
 
 -- the last test of a list
@@ -60,7 +60,7 @@ pub means-last : {b : Bool} {P : Type 0} → Means b P → Means (b || false) P
 means-last {b} m = (λ e. m .0 (last b e), λ p. rw (m .1 p))
 
 -- one of the holes
-pub means-some : (P : Hole → Type 0) {b c : Bool} (k : Hole) (ks : List Hole) → Means b (P k) → Means c ((j : Hole) × List·Memᴰ j ks × P j)
+means-some : (P : Hole → Type 0) {b c : Bool} (k : Hole) (ks : List Hole) → Means b (P k) → Means c ((j : Hole) × List·Memᴰ j ks × P j)
     → Means (b || c) ((j : Hole) × List·Memᴰ j (k ∷ ks) × P j)
 means-some P {b} {c} k ks m n = (
   λ e.
@@ -100,7 +100,7 @@ no-start len base named =
 
 -- ---- refusal 6
 
-pub means-power : (align : ℕ) → align < 2 ^ 64 → Means (onePower align) (Power align)
+means-power : (align : ℕ) → align < 2 ^ 64 → Means (onePower align) (Power align)
 means-power align l = (
   λ e. one-power width align l (eqb-true (onesIn width align) 1 e),
   λ p. eq-eqb (onesIn width align) 1 (power-one width p l),

@@ -20,7 +20,7 @@ use Rattle.rules.proofs.Sums.{added, added-append}
 use Rattle.rules.proofs.Cover.{Inside, once, cover, once-in, once-inside, once-most, cover-member, cover-two, vacant-cover, cover-vacant}
 
 -- the stretches cover each address of the range once, and no other
-abbrev pub Fills : Hole → List Hole → Type 0
+abbrev Fills : Hole → List Hole → Type 0
 Fills range ks = (y : ℕ) → cover y ks ≡ once y range
 
 module _ (range : Hole) (ks : List Hole) (fills : Fills range ks) where

@@ -75,7 +75,7 @@ module _ (s align : ℕ) (k : Hole) (suit : suits s align k ≡ true) where
   pub suits-leaves : (candidate align (k .addr) .0 + s ≡ end k .0 → ⊥) → candidate align (k .addr) .0 + s + minSize ≤ end k .0
   suits-leaves = gap-apart (candidate align (k .addr) .0 + s) (end k .0) suits-gap
 
-  pub suits-room : 0 < align → s ≤ k .size
+  suits-room : 0 < align → s ≤ k .size
   suits-room pos = omega (arith, suits-fits, candidate-low align (k .addr) pos)
 
 -- ---- what is left of it
@@ -88,7 +88,7 @@ remains-rises lo hi g =
     (λ e. let w = gap-apart (lo .0) (hi .0) g (eqb-false (lo .0) (hi .0) e) in omega arith)
 
 module _ (s align : ℕ) (k : Hole) (suit : suits s align k ≡ true) (pos : 0 < align) where
-  pub split-rises : Rises (k .addr .0) (end k .0) (split s align k)
+  split-rises : Rises (k .addr .0) (end k .0) (split s align k)
   unfolding split
   split-rises =
       let c = candidate align (k .addr) in
@@ -109,7 +109,7 @@ module _ (s align : ℕ) (k : Hole) (suit : suits s align k ≡ true) (pos : 0 <
 
 -- ---- the room for the block
 
-pub find-room : (s align : ℕ) (ks front back : List Hole) (k : Hole) → 0 < align → find s align ks ≡ found front k back
+find-room : (s align : ℕ) (ks front back : List Hole) (k : Hole) → 0 < align → find s align ks ≡ found front k back
     → s ≤ k .size
 find-room s align ks front back k pos e = suits-room s align k (find-splits s align ks front back k e .1) pos
 
