@@ -94,7 +94,12 @@ passed h ks g align e =
       clear = (r .1 .1 .1 .1 .0, r .1 .1 .1 .1 .1 .0);
     }
 
--- hole by hole
+-- ---- hole by hole
+
+pub clear-rest : (g k : Hole) (ks : List Hole) → Clear g (k ∷ ks) → Clear g ks
+unfolding overlaps eightToHole
+clear-rest g k ks c = (or-right (overlap g k) (overlaps g ks) (c .0), or-right (near g k) (eightToHole g ks) (c .1))
+
 pub one-before : (g k : Hole) (ks : List Hole) → Follows (g .addr .0) (end k .0) → Clear g ks → Clear g (k ∷ ks)
 unfolding overlaps eightToHole
 one-before g k ks f c =

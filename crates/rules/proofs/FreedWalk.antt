@@ -1,10 +1,10 @@
 -- The walk after a free: a span that is clear of the holes goes among them, and the walk still goes through. Assumes nothing.
-use mathlib.Core.Path.{_≡_, refl, sym, _∙_}
+use mathlib.Core.Path.{_≡_, refl, _∙_}
 use mathlib.Core.Bool.{true, cond}
 use mathlib.Core.List.{List, [], _∷_}
 use mathlib.Core.Logic.{⊎-elim}
 use Prim.Native.Nat.{_+_, _%_, _≤_, _<_}
-use native.Mathlib.Omega.{arith}
+use native.Mathlib.Omega.{arith, by-contra}
 use borrow.Author.Tests.{ltb-true, ltb-false, eqb-true, eqb-false}
 use Rattle.rules.specs.declared.Addr.{Addr}
 use Rattle.rules.specs.declared.Hole.{Hole}
@@ -12,12 +12,12 @@ use Rattle.rules.specs.declared.Heap.{Heap}
 use Rattle.rules.specs.Fixed.{minSize, grain}
 use Rattle.rules.specs.Kinds.{before}
 use Rattle.rules.specs.Holes.{end}
-use Rattle.rules.specs.Free.{touch, joined, inFront, freed, overlaps, eightToHole}
-use Rattle.rules.proofs.Cases.{cases, by-le, by-test, apart, or-right}
+use Rattle.rules.specs.Free.{touch, joined, inFront, freed}
+use Rattle.rules.proofs.Cases.{cases, by-test, apart}
 use Rattle.rules.proofs.Gaps.{gap-apart, eights-gap}
 use Rattle.rules.proofs.Walk.{Fair, Keeps, behind, ends, walks, floorOf, walks-head, walks-tail, walks-cons, ends-low, ends-top, gap-floor}
 use Rattle.rules.proofs.Floors.{walks-floor}
-use Rattle.rules.proofs.Clear.{Clear, Follows, ClearBehind, overlaps-append, eight-append, overlaps-at, eight-before, eight-behind}
+use Rattle.rules.proofs.Clear.{Clear, Follows, ClearBehind, clear-rest, overlaps-at, eight-before, eight-behind}
 
 -- ---- a span among the holes
 
@@ -49,21 +49,15 @@ span-joined h floor g k s q e =
 clear-follows : (g k : Hole) (ks : List Hole) → Clear g (k ∷ ks) → minSize ≤ k .size → g .addr .0 < k .addr .0
     → Follows (k .addr .0) (end g .0)
 clear-follows g k ks c n l = (
-  by-le (end g .0) (k .addr .0) (λ d. d) (λ d. apart (overlaps-at g k [] ks (omega arith) d) (c .0)),
+  by-contra (end g .0) (k .addr .0) (λ d. apart (overlaps-at g k [] ks (omega arith) d) (c .0)),
   λ e. apart (eight-before g k [] ks e) (c .1),
 )
 
 clear-followed : (g k : Hole) (ks : List Hole) → Clear g (k ∷ ks) → minSize ≤ g .size → k .addr .0 ≤ g .addr .0
     → Follows (g .addr .0) (end k .0)
 clear-followed g k ks c n l = (
-  by-le (end k .0) (g .addr .0) (λ d. d) (λ d. apart (overlaps-at g k [] ks d (omega arith)) (c .0)),
+  by-contra (end k .0) (g .addr .0) (λ d. apart (overlaps-at g k [] ks d (omega arith)) (c .0)),
   λ e. apart (eight-behind g k [] ks e) (c .1),
-)
-
-clear-rest : (g k : Hole) (ks : List Hole) → Clear g (k ∷ ks) → Clear g ks
-clear-rest g k ks c = (
-  or-right (overlaps g (k ∷ [])) (overlaps g ks) (sym (overlaps-append g (k ∷ []) ks) ∙ c .0),
-  or-right (eightToHole g (k ∷ [])) (eightToHole g ks) (sym (eight-append g (k ∷ []) ks) ∙ c .1),
 )
 
 -- ---- the walk after a free

@@ -3,7 +3,7 @@
 use mathlib.Core.Path.{_≡_, refl}
 use mathlib.Core.List.{List, [], _∷_, List·Memᴰ, List·Memᴰ·head, List·Memᴰ·tail}
 use Prim.Native.Nat.{ℕ, suc, _+_, _-_, _≤_}
-use native.Mathlib.Omega.{arith}
+use native.Mathlib.Omega.{arith, by-contra}
 use lib.ListN.{length}
 use Rattle.rules.specs.declared.Addr.{Addr}
 use Rattle.rules.specs.declared.Hole.{Hole}
@@ -15,7 +15,6 @@ use Rattle.rules.specs.Calls.{Call, done}
 use Rattle.rules.specs.Outcome.{outcome, leaves, after}
 use Rattle.rules.specs.InWords.{Within}
 use Rattle.rules.specs.Demands.{Memory}
-use Rattle.rules.proofs.Cases.{by-le}
 use Rattle.rules.proofs.Walk.{sound-count}
 use Rattle.rules.proofs.Rises.{sound-rises}
 use Rattle.rules.proofs.Lists.{holes-read, NoHead, putHeads-length, heads-outside, read-back}
@@ -37,7 +36,7 @@ no-head-of : (base : Addr) (i : ℕ) (ks : List Hole) → ((k : Hole) → List·
     → NoHead base i ks
 no-head-of base i [] f = tt
 no-head-of base i (k ∷ ks) f = (
-  λ l. by-le (k .addr .0 - base .0 + 16) i (λ x. x) (λ x. absurd (f k (List·Memᴰ·head refl) (l, x))),
+  λ l. by-contra (k .addr .0 - base .0 + 16) i (λ x. f k (List·Memᴰ·head refl) (l, x)),
   no-head-of base i ks (λ j d. f j (List·Memᴰ·tail d)),
 )
 

@@ -34,6 +34,11 @@ module _ (range : Hole) (ks : List Hole) (fills : Fills range ks) where
   fills-one j k m n d y v w =
       omega (arith, fills y, cover-two y ks j k m n d, once-in y j v, once-in y k w, once-most y range)
 
+  -- no stretch starts inside another
+  fills-past : (i k : Hole) → List·Memᴰ i ks → List·Memᴰ k ks → 0 < k .size → i .addr .0 < k .addr .0 → k .addr .0 < end i .0 → ⊥
+  fills-past i k m n pos low high =
+      fills-one i k m n (λ d. omega (arith, ap (λ (x : Hole). x .addr .0) d)) (k .addr .0) (omega arith) (omega arith)
+
   -- where a stretch ends inside the range, another starts
   fills-next : (k : Hole) → List·Memᴰ k ks → 0 < k .size → end k .0 < end range .0
       → (j : Hole) × List·Memᴰ j ks × (j .addr .0 ≡ end k .0)
@@ -63,7 +68,7 @@ module _ (range : Hole) (ks : List Hole) (fills : Fills range ks) where
         let i = next .0 in
         let ib = big i (next .1) in
         let q = next .2 in
-        fills-one i k (next .1) n (λ d. omega (arith, ap (λ (x : Hole). x .addr .0) d)) (k .addr .0) (omega arith) (omega arith)
+        fills-past i k (next .1) n (omega arith) (omega arith) (omega arith)
 
     pub no-eight-before : (k : Hole) → List·Memᴰ k ks → range .addr .0 + grain ≡ k .addr .0 → ⊥
     no-eight-before k m e =
@@ -73,7 +78,7 @@ module _ (range : Hole) (ks : List Hole) (fills : Fills range ks) where
         let i = first .0 in
         let ib = big i (first .1) in
         let q = first .2 in
-        fills-one i k (first .1) m (λ d. omega (arith, ap (λ (x : Hole). x .addr .0) d)) (k .addr .0) (omega arith) (omega arith)
+        fills-past i k (first .1) m (omega arith) (omega arith) (omega arith)
 
     pub no-eight-behind : (k : Hole) → List·Memᴰ k ks → end k .0 + grain ≡ end range .0 → ⊥
     no-eight-behind k m e =

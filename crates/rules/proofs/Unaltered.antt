@@ -17,15 +17,16 @@ use Rattle.rules.specs.Calls.{Call, opening, allocate, free, extend, lis
 use Rattle.rules.specs.Outcome.{outcome, leaves, after, Rows, over, inRows, leavesRows, rowsAfter}
 use Rattle.rules.specs.Demands.{RefusalsKeep, TellsOnly, OtherRows, NothingLoose}
 use Rattle.rules.proofs.Cases.{by-test}
+use Rattle.rules.proofs.Calls.{answer-refused, answer-told, rows-refused}
 use Rattle.rules.proofs.Passes.{by-decided}
 
 pub refusals-keep : RefusalsKeep
-unfolding after leaves rowsAfter leavesRows
-refusals-keep c h m rows r e = (rw e, rw e, rw e, rw e)
+unfolding after leaves
+refusals-keep c h m rows r e = (answer-refused c h m r e, rw e, rw e, rows-refused c h m r rows e)
 
 pub tells-only : TellsOnly
 unfolding after leaves
-tells-only c h m a ks e = (rw e, rw e, rw e)
+tells-only c h m a ks e = (answer-told c h m a ks e, rw e, rw e)
 
 -- what is handed back is known by its answer and its heap
 done-is : (d : Done) {a : Answer} {h : Heap} → d .answer ≡ a → d .heap ≡ h → d ≡ record { answer = a; heap = h }

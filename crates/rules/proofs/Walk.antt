@@ -187,15 +187,16 @@ floor-gap h k ks =
     (λ q l. inr l)
 
 -- it is bottom or 16 bytes on
-pub floor-low : (h : Heap) (ks : List Hole) → h .bottom .0 ≤ floorOf h ks .0
+by-floor : (P : Addr → Type 0) (h : Heap) (ks : List Hole) → P (h .bottom) → P (plus (h .bottom) minSize) → P (floorOf h ks)
 unfolding floorOf
-floor-low h [] = omega arith
-floor-low h (k ∷ ks) = cases (same (h .bottom) (k .addr)) (λ q. rw q (omega arith)) (λ q. rw q (omega arith))
+by-floor P h [] a b = b
+by-floor P h (k ∷ ks) a b = by-test P (same (h .bottom) (k .addr)) (h .bottom) (plus (h .bottom) minSize) (λ e. a) (λ e. b)
+
+pub floor-low : (h : Heap) (ks : List Hole) → h .bottom .0 ≤ floorOf h ks .0
+floor-low h ks = by-floor (λ floor. h .bottom .0 ≤ floor .0) h ks (omega arith) (omega arith)
 
 pub floor-high : (h : Heap) (ks : List Hole) → floorOf h ks .0 ≤ h .bottom .0 + minSize
-unfolding floorOf
-floor-high h [] = omega arith
-floor-high h (k ∷ ks) = cases (same (h .bottom) (k .addr)) (λ q. rw q (omega arith)) (λ q. rw q (omega arith))
+floor-high h ks = by-floor (λ floor. floor .0 ≤ h .bottom .0 + minSize) h ks (omega arith) (omega arith)
 
 -- the rules on the holes: the walk from the first floor, and the sum
 pub sound-walks : (h : Heap) → Fair h → (ks : List Hole)
