@@ -1,7 +1,7 @@
 -- How often stretches cover an address: a count that adds up where they are split, joined or taken together. Assumes nothing.
-use mathlib.Core.Path.{_≡_, refl}
+use mathlib.Core.Path.{_≡_}
 use mathlib.Core.Bool.{cond}
-use mathlib.Core.List.{List, [], _∷_, List·Memᴰ, List·Memᴰ·head, List·Memᴰ·tail, List·Memᴰ·not-nil, List·Memᴰ·cases-cons}
+use mathlib.Core.List.{List, [], _∷_, List·Memᴰ, List·Memᴰ·not-nil, List·Memᴰ·cases-cons}
 use mathlib.Core.Logic.{⊎-elim}
 use Prim.Native.Nat.{ℕ, _+_, _≤_, _<_}
 use native.Mathlib.Omega.{arith}
@@ -11,7 +11,7 @@ use Rattle.rules.specs.declared.Hole.{Hole}
 use Rattle.rules.specs.Holes.{end}
 use Rattle.rules.specs.Free.{joined}
 use Rattle.rules.specs.InWords.{Within, Vacant}
-use Rattle.rules.proofs.Cases.{by-le}
+use Rattle.rules.proofs.Cases.{by-le, some-first, some-later}
 use Rattle.rules.proofs.Sums.{added, Adds}
 
 -- the address y lies in the hole k
@@ -109,9 +109,6 @@ module _ (y : ℕ) where
   cover-vacant [] l = absurd (omega arith)
   cover-vacant (k ∷ ks) l =
       by-once y k
-      (λ w e. (k, List·Memᴰ·head refl, w))
-      (λ a e. later (cover-vacant ks (omega arith)))
-      (λ a e. later (cover-vacant ks (omega arith)))
-    where
-      later : Vacant ks y → Vacant (k ∷ ks) y
-      later v = (v .0, List·Memᴰ·tail (v .1), v .2)
+      (λ w e. some-first (λ j. Inside j y) w)
+      (λ a e. some-later (λ j. Inside j y) (cover-vacant ks (omega arith)))
+      (λ a e. some-later (λ j. Inside j y) (cover-vacant ks (omega arith)))

@@ -15,7 +15,7 @@ use Rattle.rules.specs.Kinds.{plus, multipleOf, raised}
 use Rattle.rules.specs.Holes.{end}
 use Rattle.rules.specs.Allocate.{candidate, suits, Found, nothing, found, later, find}
 use Rattle.rules.specs.InWords.{Gap, endOf, Lies, RoomAt}
-use Rattle.rules.proofs.Cases.{by-eq, by-test, both, apart}
+use Rattle.rules.proofs.Cases.{by-eq, by-test, both, apart, some-cases}
 use Rattle.rules.proofs.Multiples.{multiples-apart, multiple-trans, up-is}
 use Rattle.rules.proofs.Powers.{power-pos, eight-or-more}
 use Rattle.rules.proofs.Rises.{Rises}
@@ -115,12 +115,6 @@ rises-member lo hi (j ∷ js) k s m =
     (λ (t : List·Memᴰ k js). omega (arith, rises-member (end j .0) hi js k (s .2) t))
     (List·Memᴰ·cases-cons m)
 
--- room is in the first hole or in those behind it
-room-cases {ℓ} : {X : Type ℓ} (r align : ℕ) (k : Hole) (ks : List Hole) (x : ℕ) → RoomAt r align (k ∷ ks) x
-    → (Lies r align k x → X) → (RoomAt r align ks x → X) → X
-room-cases r align k ks x (j, m, l) f g =
-    ⊎-elim (λ (e : j ≡ k). f (rw e at l)) (λ (t : List·Memᴰ j ks). g (j, t, l)) (List·Memᴰ·cases-cons m)
-
 pub by-found {ℓ} : {X : Type ℓ} (f : Found) → (f ≡ nothing → X)
     → ((front : List Hole) (k : Hole) (back : List Hole) → f ≡ found front k back → X) → X
 by-found nothing a b = a refl
@@ -135,9 +129,9 @@ module _ (r align : ℕ) (p : Power align) where
 
   lowest-later : (k : Hole) (ks : List Hole) (f : Found) → ((x : ℕ) → Lies r align k x → ⊥) → Lowest ks f → Lowest (k ∷ ks) (later k f)
   unfolding later
-  lowest-later k ks nothing n low = λ x m. room-cases r align k ks x m (n x) (low x)
+  lowest-later k ks nothing n low = λ x m. some-cases (λ j. Lies r align j x) m (n x) (low x)
   lowest-later k ks (found front j back) n low =
-      λ lo hi s x m. room-cases r align k ks x m (λ l. absurd (n x l)) (low (end k .0) hi (s .2) x)
+      λ lo hi s x m. some-cases (λ j. Lies r align j x) m (λ l. absurd (n x l)) (low (end k .0) hi (s .2) x)
 
   find-lowest : (ks : List Hole) → Placed ks → Lowest ks (find r align ks)
   unfolding find
@@ -146,7 +140,7 @@ module _ (r align : ℕ) (p : Power align) where
       let e8 = g k (List·Memᴰ·head refl) in
       by-test (Lowest (k ∷ ks)) (suits r align k) (found [] k ks) (later k (find r align ks))
       (λ e lo hi s x m.
-      room-cases r align k ks x m
+      some-cases (λ j. Lies r align j x) m
       (λ l. lies-suits r align k p e8 l .1)
       (λ t. omega (arith, suits-fits r align k e, rises-member (end k .0) hi ks (t .0) (s .2) (t .1), t .2 .from)))
       (λ e.
