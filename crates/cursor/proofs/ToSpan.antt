@@ -20,6 +20,7 @@ use Rattle.rules.specs.declared.Hole.{Hole}
 use Rattle.rules.specs.declared.Heap.{Heap}
 use Rattle.rules.proofs.Cases.{by-test}
 use Rattle.rules.proofs.Walk.{Fair, headRules, behind, ends, walks}
+use Rattle.rules.proofs.Freed.{Past}
 use Rattle.cursor.specs.declared.Cursor.{Cursor}
 use Rattle.cursor.specs.declared.Near.{Near}
 use Rattle.cursor.specs.declared.Step.{Step}
@@ -125,8 +126,7 @@ AllFrom x (k ∷ ks) = (k .addr .0 ≤ x .0) × AllFrom x ks
 
 -- the first hole, where there is one, lies beyond the address
 abbrev pub Beyond : Addr → List Hole → Type 0
-Beyond x [] = Unit {0}
-Beyond x (k ∷ ks) = x .0 < k .addr .0
+Beyond x ks = Past (x .0) ks
 
 module _ (h : Heap) (x : Addr) where
   -- the holes before the address, and those beyond it

@@ -3,12 +3,12 @@ use mathlib.Core.Path.{_≡_, refl, sym}
 use mathlib.Core.Bool.{Bool, true, false, _||_, or-assoc, or-true}
 use mathlib.Core.List.{List, [], _∷_, _++_}
 use Prim.Native.Nat.{ℕ, _+_, _-_, _%_, _≤_, _<_}
-use native.Mathlib.Omega.{arith}
+use native.Mathlib.Omega.{arith, by-contra}
 use lib.Dec.{eqb, ltb}
 use borrow.Author.Tests.{ltb-false, eqb-true, eqb-false, not-false, le-ltb, lt-ltb, eq-eqb, ne-eqb}
 use Rattle.rules.specs.declared.Hole.{Hole}
 use Rattle.rules.specs.declared.Heap.{Heap}
-use Rattle.rules.specs.Fixed.{grain}
+use Rattle.rules.specs.Fixed.{minSize, grain}
 use Rattle.rules.specs.Tests.{all, any}
 use Rattle.rules.specs.Kinds.{before}
 use Rattle.rules.specs.Holes.{end, total}
@@ -71,7 +71,7 @@ Clear g ks = (overlaps g ks ≡ false) × (eightToHole g ks ≡ false)
 abbrev pub Follows : ℕ → ℕ → Type 0
 Follows b a = (a ≤ b) × (a + grain ≡ b → ⊥)
 
--- what refusal 8 lets through: bottom and top are clear of it too
+-- what refusal 8 lets through: a span at a multiple of 8, clear of the holes, that follows bottom and that top follows
 pub record Passed (h : Heap) (ks : List Hole) (g : Hole) : Type 0 where
   pub at8 : g .addr .0 % grain ≡ 0
   pub low : Follows (g .addr .0) (h .bottom .0)
@@ -99,6 +99,21 @@ passed h ks g align e =
 pub clear-rest : (g k : Hole) (ks : List Hole) → Clear g (k ∷ ks) → Clear g ks
 unfolding overlaps eightToHole
 clear-rest g k ks c = (or-right (overlap g k) (overlaps g ks) (c .0), or-right (near g k) (eightToHole g ks) (c .1))
+
+-- a hole that the span is clear of follows it, or it follows the hole
+pub clear-follows : (g k : Hole) (ks : List Hole) → Clear g (k ∷ ks) → minSize ≤ k .size → g .addr .0 < k .addr .0
+    → Follows (k .addr .0) (end g .0)
+clear-follows g k ks c n l = (
+  by-contra (end g .0) (k .addr .0) (λ d. apart (overlaps-at g k [] ks (omega arith) d) (c .0)),
+  λ e. apart (eight-before g k [] ks e) (c .1),
+)
+
+pub clear-followed : (g k : Hole) (ks : List Hole) → Clear g (k ∷ ks) → minSize ≤ g .size → k .addr .0 ≤ g .addr .0
+    → Follows (g .addr .0) (end k .0)
+clear-followed g k ks c n l = (
+  by-contra (end k .0) (g .addr .0) (λ d. apart (overlaps-at g k [] ks d (omega arith)) (c .0)),
+  λ e. apart (eight-behind g k [] ks e) (c .1),
+)
 
 pub one-before : (g k : Hole) (ks : List Hole) → Follows (g .addr .0) (end k .0) → Clear g ks → Clear g (k ∷ ks)
 unfolding overlaps eightToHole

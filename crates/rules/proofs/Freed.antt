@@ -10,7 +10,7 @@ use Rattle.rules.specs.Free.{joined, inFront, freed}
 use Rattle.rules.proofs.Rises.{Rises, rises-le, endOr, rises-front, rises-back}
 
 -- the first of the holes, if there is one, lies past n
-abbrev Past : ℕ → List Hole → Type 0
+abbrev pub Past : ℕ → List Hole → Type 0
 Past n [] = Unit {0}
 Past n (k ∷ ks) = n < k .addr .0
 

@@ -3,8 +3,8 @@ use mathlib.Core.Path.{_≡_, refl, _∙_}
 use mathlib.Core.Bool.{true, cond}
 use mathlib.Core.List.{List, [], _∷_}
 use mathlib.Core.Logic.{⊎-elim}
-use Prim.Native.Nat.{_+_, _%_, _≤_, _<_}
-use native.Mathlib.Omega.{arith, by-contra}
+use Prim.Native.Nat.{_+_, _%_, _≤_}
+use native.Mathlib.Omega.{arith}
 use borrow.Author.Tests.{ltb-true, ltb-false, eqb-true, eqb-false}
 use Rattle.rules.specs.declared.Addr.{Addr}
 use Rattle.rules.specs.declared.Hole.{Hole}
@@ -13,11 +13,11 @@ use Rattle.rules.specs.Fixed.{minSize, grain}
 use Rattle.rules.specs.Kinds.{before}
 use Rattle.rules.specs.Holes.{end}
 use Rattle.rules.specs.Free.{touch, joined, inFront, freed}
-use Rattle.rules.proofs.Cases.{cases, by-test, apart}
+use Rattle.rules.proofs.Cases.{cases, by-test}
 use Rattle.rules.proofs.Gaps.{gap-apart, eights-gap}
 use Rattle.rules.proofs.Walk.{Fair, Keeps, behind, ends, walks, floorOf, walks-head, walks-tail, walks-cons, ends-low, ends-top, gap-floor}
 use Rattle.rules.proofs.Floors.{walks-floor}
-use Rattle.rules.proofs.Clear.{Clear, Follows, ClearBehind, clear-rest, overlaps-at, eight-before, eight-behind}
+use Rattle.rules.proofs.Clear.{Clear, Follows, clear-follows, clear-followed, clear-rest, ClearBehind}
 
 -- ---- a span among the holes
 
@@ -44,21 +44,6 @@ span-joined h floor g k s q e =
       to = omega arith;
       high = λ z. s .high (omega arith);
     }
-
--- a hole that the span is clear of follows it, or it follows the hole
-clear-follows : (g k : Hole) (ks : List Hole) → Clear g (k ∷ ks) → minSize ≤ k .size → g .addr .0 < k .addr .0
-    → Follows (k .addr .0) (end g .0)
-clear-follows g k ks c n l = (
-  by-contra (end g .0) (k .addr .0) (λ d. apart (overlaps-at g k [] ks (omega arith) d) (c .0)),
-  λ e. apart (eight-before g k [] ks e) (c .1),
-)
-
-clear-followed : (g k : Hole) (ks : List Hole) → Clear g (k ∷ ks) → minSize ≤ g .size → k .addr .0 ≤ g .addr .0
-    → Follows (g .addr .0) (end k .0)
-clear-followed g k ks c n l = (
-  by-contra (end k .0) (g .addr .0) (λ d. apart (overlaps-at g k [] ks d (omega arith)) (c .0)),
-  λ e. apart (eight-behind g k [] ks e) (c .1),
-)
 
 -- ---- the walk after a free
 
