@@ -6,10 +6,10 @@ use mathlib.Core.List.{List, [], _∷_}
 use Prim.Native.Nat.{ℕ, _+_, _%_, _≤_}
 use native.Mathlib.Omega.{arith}
 use lib.Bits.{bitOr, bitAnd, or-mod, or-add-and, and-le-l, and-le-r}
-use borrow.Author.Tests.{leb-true, le-leb, eqb-true, eq-eqb, ne-eqb}
+use borrow.Author.Tests.{eq-eqb, ne-eqb}
 use denote.Enum.Declared.{tagOf}
 use types.Run.{OneOf}
-use Rattle.rules.specs.Fixed.{minSize, grain}
+use Rattle.rules.specs.Fixed.{grain}
 use Rattle.rules.specs.Tests.{all}
 use Rattle.rules.specs.Kinds.{addrOf, none, isNone}
 use Rattle.rules.specs.Holes.{hole, headAt}
@@ -18,27 +18,12 @@ use Rattle.rules.specs.declared.Place.{Place}
 use Rattle.rules.specs.declared.Head.{Head}
 use Rattle.rules.specs.declared.Hole.{Hole}
 use Rattle.rules.specs.declared.Heap.{Heap}
-use Rattle.rules.proofs.Cases.{cases, all-each, each-all}
-use Rattle.rules.proofs.Walk.{headRules, ends}
+use Rattle.rules.proofs.Cases.{cases}
+use Rattle.rules.proofs.Walk.{headRules, Keeps, rules-keep, keep-rules, ends}
 use Rattle.cursor.specs.declared.Step.{Step}
 use Rattle.cursor.specs.declared.Step.the-variants as step
 use Rattle.cursor.specs.Walk.{lastOf, headOf, stepOf}
 use Rattle.cursor.proofs.Step as Steps
-
--- ---- the rules on a head, as numbers
-
-pub record Keeps (h : Heap) (floor : Addr) (k : Hole) : Type 0 where
-  pub above : floor .0 ≤ k .addr .0
-  pub addr8 : k .addr .0 % grain ≡ 0
-  pub size8 : k .size % grain ≡ 0
-  pub least : minSize ≤ k .size
-  pub inside : k .addr .0 + k .size ≤ h .top .0
-
-pub rules-keep : (h : Heap) (floor : Addr) (k : Hole) → all (headRules h floor k) ≡ true → Keeps h floor k
-rules-keep h floor k e = let r = all-each (headRules h floor k) e in omega (arith, leb-true, eqb-true)
-
-pub keep-rules : (h : Heap) (floor : Addr) (k : Hole) → Keeps h floor k → all (headRules h floor k) ≡ true
-keep-rules h floor k r = each-all (headRules h floor k) (omega (arith, le-leb, eq-eqb))
 
 -- ---- two multiples of 8, tested as one by their `|`
 
@@ -86,7 +71,7 @@ module _ (h : Heap) (m : List ℕ) (at : Place) (floor : Addr) where
   unfolding stepOf
   step-none e = rw e
 
-  pub step-some : isNone at ≡ false → stepOf h m at floor ≡ headOf h floor (holeAt h m at) (headAt m at .next)
+  step-some : isNone at ≡ false → stepOf h m at floor ≡ headOf h floor (holeAt h m at) (headAt m at .next)
   unfolding stepOf
   step-some e = rw e
 

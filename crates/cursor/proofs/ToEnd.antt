@@ -1,5 +1,5 @@
 -- The walk to the end: what one turn of it leaves, and what the whole walk means for the list of holes. Assumes nothing.
-use mathlib.Core.Path.{_≡_, refl, sym, ap, _∙_}
+use mathlib.Core.Path.{_≡_, refl, sym, _∙_}
 use mathlib.Core.Bool.{true, false}
 use mathlib.Core.List.{List, [], _∷_}
 use Prim.Native.Nat.{ℕ, suc, _+_, _*_, _≤_, max}
@@ -14,15 +14,15 @@ use Rattle.rules.specs.declared.Addr.{Addr}
 use Rattle.rules.specs.declared.Place.{Place}
 use Rattle.rules.specs.declared.Hole.{Hole}
 use Rattle.rules.specs.declared.Heap.{Heap}
-use Rattle.rules.proofs.Cases.{cases, and-left, and-right}
-use Rattle.rules.proofs.Walk.{headRules, behind, walks}
+use Rattle.rules.proofs.Cases.{cases, and-left}
+use Rattle.rules.proofs.Walk.{headRules, Keeps, rules-keep, behind, walks, walks-tail}
 use Rattle.cursor.specs.declared.Step.{Step}
 use Rattle.cursor.specs.declared.Step.the-variants as step
 use Rattle.cursor.specs.declared.Walked.the-variants as walked
 use Rattle.cursor.specs.Walk.{Enough, lastOf, stepOf, stoppedWalk, walkedOf}
 use Rattle.cursor.proofs.Step as Steps
-use Rattle.cursor.proofs.OneStep.{Keeps, rules-keep, step-at, no-hole}
-use Rattle.cursor.proofs.Turn.{StartsBad, turn-at, turn-end, turn-bad}
+use Rattle.cursor.proofs.OneStep.{step-at}
+use Rattle.cursor.proofs.Turn.{StartsBad, turn-at, turn-goes, turn-stops}
 
 -- ---- one turn
 
@@ -42,20 +42,6 @@ module _ (h : Heap) (floor : Addr) (total count largest : ℕ) where
   walked-broken [] e = rw e
   walked-broken (k ∷ ks) e = rw (e, walkedOf)
 
-  -- a step that finds no hole ends the walk
-  pub walked-stops : (m : List ℕ) (at : Place) (n : ℕ) → Enough h floor n → floor .0 ≤ h .top .0 + minSize
-      → (s : Step) → s ≡ stepOf h m at floor → OneOf (1 ∷ 2 ∷ []) (tagOf Steps.the-type s)
-      → stoppedWalk s total count largest ≡ walkedOf h floor total count largest (Holes.holesFrom n (h .base) m at)
-  unfolding stoppedWalk
-  walked-stops m at n en low s is o =
-      no-hole s o
-      (λ e.
-      let t = turn-end h m at floor n (sym is ∙ e) in
-      rw (e, t .0, walked-none, t .1))
-      (λ e.
-      let t = turn-bad h m at floor n en low (sym is ∙ e) in
-      rw e (sym (walked-broken (Holes.holesFrom n (h .base) m at) t)))
-
 -- ---- the whole walk
 
 max-max : (a b c : ℕ) → max (max a b) c ≡ max a (max b c)
@@ -74,7 +60,7 @@ module _ (h : Heap) where
       rw (walked-none h floor total count largest, e, a, b, c)
   walked-good floor total count largest (k ∷ ks) e =
       let r = and-left (all (headRules h floor k)) (walks h (behind k) ks) e in
-      let w = and-right (all (headRules h floor k)) (walks h (behind k) ks) e in
+      let w = walks-tail h floor k ks e in
       let a : total + k .size + Holes.total ks ≡ total + (k .size + Holes.total ks) = omega arith in
       let b : count + 1 + length ks ≡ count + suc (length ks) = omega arith in
       walked-more h floor total count largest k ks r
@@ -138,7 +124,11 @@ module _ {h : Heap} {m : List ℕ} {from : Place} {low : Addr} {before : ℕ} wh
           → stoppedWalk s total count largest ≡ walkedOf h low before 0 0 (Holes.holesFrom n (h .base) m from)
       stops o n en =
           let l = i .left n en in
-          walked-stops h floor total count largest m at (l .rest) (l .enough) (i .below) s is o ∙ l .same
+          turn-stops h m at floor (l .rest) (walkedOf h floor total count largest) (l .enough) (i .below) s is o
+          (λ r. stoppedWalk r total count largest)
+          (λ z e. rw (walked-none h floor total count largest, e))
+          (λ ks b. unfold stoppedWalk in sym (walked-broken h floor total count largest ks b))
+          ∙ l .same
 
       pub goes : {k : Hole} {q : Place} → s ≡ step.At k q
           → Going h m from low before q (behind k) (total + k .size) (count + 1) (max largest (k .size))
@@ -153,9 +143,8 @@ module _ {h : Heap} {m : List ℕ} {from : Place} {low : Addr} {before : ℕ} wh
                   rest = t .rest;
                   enough = t .enough;
                   same =
-                      sym (walked-more h floor total count largest k (Holes.holesFrom (t .rest) (h .base) m q) (t .rules))
-                      ∙ ap (λ (ks : List Hole). walkedOf h floor total count largest ks) (sym (t .list))
-                      ∙ l .same;
+                      turn-goes h m at floor (l .rest) (walkedOf h floor total count largest) t (l .same)
+                      (walked-more h floor total count largest k (Holes.holesFrom (t .rest) (h .base) m q) (t .rules));
                 };
             below = omega arith;
             summed = omega (arith, i .summed);

@@ -1,14 +1,16 @@
 -- One turn of a walk: what the step at a place says of the list of holes from there on. Assumes nothing.
-use mathlib.Core.Path.{_≡_, refl, sym, ap, _∙_}
+use mathlib.Core.Path.{_≡_, sym, ap, _∙_}
 use mathlib.Core.Bool.{true, false}
 use mathlib.Core.List.{List, [], _∷_}
 use Prim.Native.Nat.{ℕ, zero, suc, _+_, _-_, _≤_, _<_}
 use native.Mathlib.Omega.{arith}
 use lib.Dec.{eqb}
+use denote.Enum.Declared.{tagOf}
+use types.Run.{OneOf}
 use borrow.Author.Tests.{eqb-true, eqb-false, eq-eqb, ne-eqb}
 use Rattle.rules.specs.Fixed.{minSize}
 use Rattle.rules.specs.Tests.{all}
-use Rattle.rules.specs.Kinds.{addr, addrOf, placeOf, none, isNone, same}
+use Rattle.rules.specs.Kinds.{addr, placeOf, none, isNone}
 use Rattle.rules.specs.Holes.{headAt, holesFrom, firstOf}
 use Rattle.rules.specs.Sound.{most, holes}
 use Rattle.rules.specs.declared.Addr.{Addr}
@@ -16,38 +18,27 @@ use Rattle.rules.specs.declared.Place.{Place}
 use Rattle.rules.specs.declared.Hole.{Hole}
 use Rattle.rules.specs.declared.Heap.{Heap}
 use Rattle.rules.proofs.Cases.{cases}
-use Rattle.rules.proofs.Walk.{Fair, headRules, behind, floorOf}
+use Rattle.rules.proofs.Walk.{Fair, headRules, rules-keep, behind, floorOf, floor-low, floor-high}
+use Rattle.rules.proofs.Lists.{from-none, from-step, place-back, first-from, holes-read}
+use Rattle.cursor.specs.declared.Step.{Step}
 use Rattle.cursor.specs.declared.Step.the-variants as step
 use Rattle.cursor.specs.Walk.{Enough, startOf, lastOf, stepOf}
-use Rattle.cursor.proofs.OneStep.{holeAt, rules-keep, step-none, step-at, step-end, step-bad}
+use Rattle.cursor.proofs.Step as Steps
+use Rattle.cursor.proofs.OneStep.{holeAt, step-none, step-at, step-end, step-bad, no-hole}
 
 -- ---- the list at a place
 
 holes-none : (n : ℕ) (h : Heap) (m : List ℕ) (at : Place) → isNone at ≡ true → holesFrom n (h .base) m at ≡ []
-unfolding holesFrom
-holes-none zero h m at e = refl
-holes-none (suc n) h m at e = rw (e, holesFrom)
+holes-none n h m at e = let z = eqb-true (at .0) (none .0) e in rw z (from-none n (h .base) m)
 
 holes-more : (n : ℕ) (h : Heap) (m : List ℕ) (at : Place) → isNone at ≡ false
     → holesFrom (suc n) (h .base) m at ≡ holeAt h m at ∷ holesFrom n (h .base) m (headAt m at .next)
-unfolding holesFrom
-holes-more n h m at e = rw (e, holesFrom)
-
--- the place of an address that a place has
-pub place-back : (base : Addr) (at : Place) → placeOf base (addrOf base at) ≡ at
-place-back base at = let e : base .0 + at .0 - base .0 ≡ at .0 = omega arith in rw e
+holes-more n h m at e = from-step n (h .base) m at (eqb-false (at .0) (none .0) e)
 
 -- a list that is read at all begins where it is read
-pub first-at : (n : ℕ) (h : Heap) (m : List ℕ) (at : Place) → 0 < n
-    → firstOf (h .base) (holesFrom n (h .base) m at) ≡ at
-unfolding firstOf
+first-at : (n : ℕ) (h : Heap) (m : List ℕ) (at : Place) → 0 < n → firstOf (h .base) (holesFrom n (h .base) m at) ≡ at
 first-at zero h m at l = absurd (omega arith)
-first-at (suc n) h m at l =
-    cases (isNone at)
-    (λ e.
-    let z : at .0 ≡ none .0 = eqb-true (at .0) (none .0) e in
-    rw (holes-none (suc n) h m at e, z))
-    (λ e. rw (holes-more n h m at e) (place-back (h .base) at))
+first-at (suc n) h m at l = first-from n (h .base) m at
 
 -- more heads than lie behind a floor are at least one
 enough-more : (h : Heap) (floor : Addr) (n : ℕ) → Enough h floor n → floor .0 ≤ h .top .0 + minSize → 0 < n
@@ -121,6 +112,27 @@ module _ (h : Heap) (m : List ℕ) (at : Place) (floor : Addr) (n : ℕ) where
       (λ t. rw (holes-none n h m at t) (sym (step-none h m at floor t) ∙ e))
       (λ t. rw (list-at (more en low) t) (step-bad h m at floor t e))
 
+-- ---- a walk that takes such a turn
+
+module _ (h : Heap) (m : List ℕ) (at : Place) (floor : Addr) (n : ℕ) {A : Type 0} (walk : List Hole → A) where
+  -- what it comes to over the hole and those that are left, it comes to over all of them
+  pub turn-goes : {k : Hole} {q : Place} {whole r : A} (t : Turn h m at floor n k q) → walk (holesFrom n (h .base) m at) ≡ whole
+      → walk (k ∷ holesFrom (t .rest) (h .base) m q) ≡ r → r ≡ whole
+  turn-goes t same e = sym (ap walk (t .list) ∙ e) ∙ same
+
+  -- a step that finds no hole ends it
+  pub turn-stops : Enough h floor n → floor .0 ≤ h .top .0 + minSize
+      → (s : Step) → s ≡ stepOf h m at floor → OneOf (1 ∷ 2 ∷ []) (tagOf Steps.the-type s) → (stopped : Step → A)
+      → (at .0 ≡ none .0 → lastOf h floor ≡ step.End → stopped step.End ≡ walk [])
+      → ((ks : List Hole) → StartsBad h floor ks → stopped step.Bad ≡ walk ks)
+      → stopped s ≡ walk (holesFrom n (h .base) m at)
+  turn-stops en low s is o stopped f g =
+      no-hole s o
+      (λ e.
+      let t = turn-end h m at floor n (sym is ∙ e) in
+      rw (e, t .0) (f (eqb-true (at .0) (none .0) (step-end h m at floor (sym is ∙ e))) (t .1)))
+      (λ e. rw e (g (holesFrom n (h .base) m at) (turn-bad h m at floor n en low (sym is ∙ e))))
+
 -- ---- where a walk starts
 
 pub record Start (h : Heap) (m : List ℕ) : Type 0 where
@@ -129,20 +141,6 @@ pub record Start (h : Heap) (m : List ℕ) : Type 0 where
   pub enough : Enough h (startOf h) (suc (most h))
   pub bottom : h .bottom .0 ≤ startOf h .0
   pub low : startOf h .0 ≤ h .top .0 + minSize
-
-start-list : (h : Heap) (m : List ℕ) → Fair h → holes h m ≡ holesFrom (suc (most h)) (h .base) m (h .first)
-unfolding holes
-start-list h m f = let e : same (h .bottom) (addr 0) ≡ false = ne-eqb (h .bottom .0) 0 (λ z. omega arith) in rw e
-
-start-bottom : (h : Heap) → h .bottom .0 ≤ startOf h .0
-unfolding startOf
-start-bottom h =
-    cases (eqb (h .first .0) (placeOf (h .base) (h .bottom) .0)) (λ q. rw q (omega arith)) (λ q. rw q (omega arith))
-
-start-low : (h : Heap) → Fair h → startOf h .0 ≤ h .top .0 + minSize
-unfolding startOf
-start-low h f =
-    cases (eqb (h .first .0) (placeOf (h .base) (h .bottom) .0)) (λ q. rw q (omega arith)) (λ q. rw q (omega arith))
 
 start-floor : (h : Heap) (m : List ℕ) → Fair h → (n : ℕ)
     → startOf h ≡ floorOf h (holesFrom (suc n) (h .base) m (h .first))
@@ -168,12 +166,14 @@ start-floor h m f n =
 
 pub start : (h : Heap) (m : List ℕ) → Fair h → Start h m
 start h m f =
-    let list = start-list h m f in
-    let bottom = start-bottom h in
+    let list = holes-read h m f in
+    let floor : startOf h ≡ floorOf h (holes h m) = rw list (start-floor h m f (most h)) in
+    let low = rw (← floor) at (floor-low h (holes h m)) in
+    let high = rw (← floor) at (floor-high h (holes h m)) in
     record {
-      floor = rw list (start-floor h m f (most h));
+      floor = floor;
       list = list;
       enough = omega arith;
-      bottom = bottom;
-      low = start-low h f;
+      bottom = low;
+      low = omega arith;
     }

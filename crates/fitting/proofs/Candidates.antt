@@ -14,8 +14,9 @@ use Rattle.rules.specs.Allocate.{candidate, suits}
 use Rattle.rules.specs.declared.Addr.{Addr}
 use Rattle.rules.specs.declared.Hole.{Hole}
 use Rattle.rules.proofs.Cases.{by-eq}
-use Rattle.rules.proofs.Multiples.{up-near, up-is, above-is}
+use Rattle.rules.proofs.Multiples.{up-near, above-is}
 use Rattle.rules.proofs.Powers.{power-pos}
+use Rattle.rules.proofs.Used.{candidate-low}
 
 module _ {align : ℕ} (p : Power align) (h : Addr) where
   -- the two ways to compute it
@@ -27,15 +28,7 @@ module _ {align : ℕ} (p : Power align) (h : Addr) where
   unfolding candidate
   raised-candidate n a = rw (ne-eqb (h .0 % align) 0 n) (ap addr (above-is (power-pos p) a))
 
-  -- it lies nowhere below the hole, and less than a head and the alignment beyond its address
-  pub candidate-above : h .0 ≤ candidate align h .0
-  unfolding candidate
-  candidate-above =
-      by-eq (h .0 % align) 0
-      (λ e. rw (eq-eqb (h .0 % align) 0 e) (omega arith))
-      (λ n.
-      rw (ne-eqb (h .0 % align) 0 n) (omega (arith, up-is align (plus h minSize .0) (power-pos p) .above)))
-
+  -- it lies less than a head and the alignment beyond the address of the hole
   pub candidate-near : candidate align h .0 < plus h minSize .0 + align
   unfolding candidate
   candidate-near =
@@ -51,7 +44,7 @@ module _ (want : ℕ) {align : ℕ} (p : Power align) (k : Hole) where
   pub small-unsuited : k .size < want → false ≡ suits want align k
   unfolding suits
   small-unsuited l =
-      let a = candidate-above p (k .addr) in
+      let a = candidate-low align (k .addr) (power-pos p) in
       rw (lt-leb (candidate align (k .addr) .0 + want) (end k .0) (omega arith))
 
   -- the rest, where it starts

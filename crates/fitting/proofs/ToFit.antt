@@ -31,14 +31,13 @@ use Rattle.fitting.specs.declared.Search.the-variants as search
 use Rattle.cursor.specs.Walk.{Enough, startOf, lastOf, stepOf, cursorAt}
 use Rattle.fitting.specs.FirstFit.{stoppedSearch, searchOf}
 use Rattle.cursor.proofs.Step as Steps
-use Rattle.cursor.proofs.OneStep.{no-hole}
-use Rattle.cursor.proofs.Turn.{Turn, StartsBad, turn-at, turn-end, turn-bad, start}
+use Rattle.cursor.proofs.Turn.{Turn, StartsBad, turn-at, turn-goes, turn-stops, start}
 use Rattle.cursor.proofs.Passed.{lastPlace}
 
 -- ---- the turns of the loop
 
 -- the fit at a hole, with the place of the next one
-abbrev pub fitAt : Cursor → ℕ → ℕ → Hole → Place → Fit
+abbrev fitAt : Cursor → ℕ → ℕ → Hole → Place → Fit
 fitAt cursor total count k next = record { cursor = cursor; hole = k; next = next; count = count + 1; total = total + k .size }
 
 module _ (h : Heap) (want align : ℕ) where
@@ -89,10 +88,8 @@ module _ (h : Heap) (want align : ℕ) where
 
 -- a turn of the loop, by the step at its place
 module _ {h : Heap} {want align : ℕ} {m : List ℕ} {cursor : Cursor} {floor : Addr} {total count : ℕ} (s : Searching h want align m cursor floor total count) where
-  -- what the heads that are left answer, the whole search does
-  answers : {ks : List Hole} {r : Search} → holesFrom (s .left) (h .base) m (cursor .hole) ≡ ks
-      → searchOf h want align floor (cursor .prev) total count ks ≡ r → r ≡ searchOf h want align (startOf h) none 0 0 (holes h m)
-  answers l e = sym (ap (searchOf h want align floor (cursor .prev) total count) l ∙ e) ∙ s .same
+  abbrev onward : List Hole → Search
+  onward = searchOf h want align floor (cursor .prev) total count
 
   module _ {st : Step} (is : st ≡ stepOf h m (cursor .hole) floor) where
     pub search-turn : {k : Hole} {q : Place} → st ≡ step.At k q → Turn h m (cursor .hole) floor (s .left) k q
@@ -102,7 +99,8 @@ module _ {h : Heap} {want align : ℕ} {m : List ℕ} {cursor : Cursor} {floor :
         → search.At (fitAt cursor total count k q) ≡ searchOf h want align (startOf h) none 0 0 (holes h m)
     searched {k} {q} e y =
         let t = search-turn e in
-        answers (t .list) (search-found h want align floor (cursor .prev) total count k _ (t .place) (t .rules) (t .first) y)
+        turn-goes h m (cursor .hole) floor (s .left) onward t (s .same)
+        (search-found h want align floor (cursor .prev) total count k _ (t .place) (t .rules) (t .first) y)
 
     pub searching-on : {k : Hole} {q : Place} → st ≡ step.At k q → Allocate.suits want align k ≡ false
         → Searching h want align m (cursorAt (cursor .hole) q) (behind k) (total + k .size) (count + 1)
@@ -111,7 +109,9 @@ module _ {h : Heap} {want align : ℕ} {m : List ℕ} {cursor : Cursor} {floor :
         record {
           left = t .rest;
           enough = t .enough;
-          same = answers (t .list) (search-on h want align floor (cursor .prev) total count k _ (t .place) (t .rules) n);
+          same =
+              turn-goes h m (cursor .hole) floor (s .left) onward t (s .same)
+              (search-on h want align floor (cursor .prev) total count k _ (t .place) (t .rules) n);
           summed = omega arith;
           counted = omega arith;
           low = t .low;
@@ -121,13 +121,11 @@ module _ {h : Heap} {want align : ℕ} {m : List ℕ} {cursor : Cursor} {floor :
         → stoppedSearch st total count ≡ searchOf h want align (startOf h) none 0 0 (holes h m)
     unfolding stoppedSearch
     search-stops o =
-        no-hole st o
-        (λ e.
-        let t = turn-end h m (cursor .hole) floor (s .left) (sym is ∙ e) in
-        rw e (answers (t .0) (search-end h want align floor (cursor .prev) total count (t .1))))
-        (λ e.
-        let t = turn-bad h m (cursor .hole) floor (s .left) (s .enough) (s .low) (sym is ∙ e) in
-        rw e (answers refl (search-bad h want align floor (cursor .prev) total count _ t)))
+        turn-stops h m (cursor .hole) floor (s .left) onward (s .enough) (s .low) st is o
+        (λ r. stoppedSearch r total count)
+        (λ z e. sym (search-end h want align floor (cursor .prev) total count e))
+        (λ ks b. sym (search-bad h want align floor (cursor .prev) total count ks b))
+        ∙ s .same
 
 -- ---- what the answer says of the list
 

@@ -24,7 +24,7 @@ use Rattle.rules.specs.declared.Done.{Done}
 use Rattle.rules.specs.declared.Refusal.the-variants.{PastArena}
 use Rattle.rules.specs.declared.Answer.the-variants.{Extended}
 use Rattle.rules.proofs.Cases.{cases, both}
-use Rattle.rules.proofs.Walk.{Fair, headRules, behind, ends, walks}
+use Rattle.rules.proofs.Walk.{Fair, headRules, rules-keep, behind, ends, walks}
 use Rattle.rules.proofs.Rises.{rises-back, sound-rises}
 use Rattle.rules.proofs.Lists.{heads-to}
 use Rattle.rules.proofs.Relink.{put-same}
@@ -33,7 +33,6 @@ use Rattle.cursor.specs.Walk.{startOf, lastOf}
 use Rattle.spotting.specs.Nearest.{nearAt, stoppedNear, nearOf}
 use Rattle.spotting.specs.declared.Near.{Near}
 use Rattle.spotting.specs.declared.Spot.the-variants as spot
-use Rattle.cursor.proofs.OneStep.{rules-keep}
 use Rattle.cursor.proofs.Passed.{lastPlace}
 use Rattle.hole_list.specs.Settled.{Ready, Settled}
 use Rattle.joining.specs.Span.{Free}

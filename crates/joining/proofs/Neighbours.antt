@@ -18,15 +18,14 @@ use Rattle.rules.specs.declared.Place.{Place}
 use Rattle.rules.specs.declared.Hole.{Hole}
 use Rattle.rules.specs.declared.Heap.{Heap}
 use Rattle.rules.proofs.Cases.{cases}
-use Rattle.rules.proofs.Walk.{Fair, headRules, behind, walks, sound-walks}
-use Rattle.rules.proofs.Clear.{total-append}
+use Rattle.rules.proofs.Walk.{Fair, headRules, rules-keep, behind, walks, sound-walks}
+use Rattle.rules.proofs.Sums.{total-append}
 use Rattle.cursor.specs.Walk.{Enough, startOf, walkedOf}
 use Rattle.spotting.specs.Nearest.{nearOf}
 use Rattle.spotting.specs.declared.Near.{Near}
 use Rattle.cursor.specs.declared.Walked.{Walked}
 use Rattle.spotting.specs.declared.Spot.{Spot}
 use Rattle.spotting.specs.declared.Spot.the-variants as spot
-use Rattle.cursor.proofs.OneStep.{rules-keep}
 use Rattle.cursor.proofs.Turn.{start}
 use Rattle.cursor.proofs.Passed.{lastFloor}
 use Rattle.spotting.proofs.ToSpan.{AllFrom, Lies, near-bad, near-at}

@@ -2,7 +2,7 @@
 -- rows. Assumes nothing.
 use mathlib.Core.Path.{_≡_, refl, _∙_}
 use mathlib.Core.Bool.{true, false, cond}
-use mathlib.Core.List.{List, [], _∷_}
+use mathlib.Core.List.{List, [], _∷_, _++_}
 use Prim.Native.Nat.{ℕ, _-_}
 use native.Mathlib.Omega.{arith}
 use lib.ListN.{length}
@@ -21,11 +21,12 @@ use Rattle.rules.specs.Tests.{any}
 use Rattle.rules.specs.Kinds.{raised}
 use Rattle.rules.specs.Holes.{largest, putHeads}
 use Rattle.rules.specs.Sound.{size, soundNumbers, soundHoles, holes}
-use Rattle.rules.specs.Allocate.{rounded, find}
+use Rattle.rules.specs.Allocate.{find}
 use Rattle.rules.specs.Calls.{Call, opening, allocate, free, extend, list, room, Outcome, refused, told, done, onlyHole, opened, taken, accepted}
-use Rattle.rules.specs.Refusals.{refusal1, refusal6, layoutOf, tests, unless}
+use Rattle.rules.specs.Refusals.{refusal1, layoutOf, openedTests, tests, unless}
 use Rattle.rules.specs.Outcome.{decided, outcome, leaves, after, Is, Rows, inRows, leavesRows, rowsAfter}
 use Rattle.rules.proofs.Cases.{cases}
+use Rattle.rules.proofs.Layouts.{layout-refused, layout-granted}
 use Rattle.rules.proofs.Walk.{sound-fair}
 use Rattle.rules.proofs.Decide.{sifted, unless-3, unless-4, unless-5, unless-fair, freeing, extending, rest, Opens, decided-later}
 
@@ -75,59 +76,24 @@ module _ (h : Heap) (ks : List Hole) where
 -- ---- every call but open: 3, 4 and 5
 
 module _ (c : Call) (h : Heap) (m : List ℕ) (later : Opens c ≡ false) where
-  pub outcome-3 : h .bottom .0 ≡ 0 → outcome c h m ≡ refused Unopened
+  tested : outcome c h m ≡ unless (openedTests (length m) h (holes h m) ++ rest c h (holes h m)) (accepted c (length m) h (holes h m))
   unfolding outcome
-  outcome-3 z =
-      let ks = holes h m in
-      decided-later c (length m) h ks later ∙ unless-3 (length m) h ks (rest c h ks) (accepted c (length m) h ks) z
+  tested = decided-later c (length m) h (holes h m) later
+
+  pub outcome-3 : h .bottom .0 ≡ 0 → outcome c h m ≡ refused Unopened
+  outcome-3 z = tested ∙ unless-3 (length m) h (holes h m) _ _ z
 
   pub outcome-4 : (h .bottom .0 ≡ 0 → ⊥) → (length m ≡ h .len → ⊥) → outcome c h m ≡ refused OtherLength
-  unfolding outcome
-  outcome-4 n d =
-      let ks = holes h m in
-      decided-later c (length m) h ks later ∙ unless-4 (length m) h ks (rest c h ks) (accepted c (length m) h ks) n d
+  outcome-4 n d = tested ∙ unless-4 (length m) h (holes h m) _ _ n d
 
   pub outcome-5 : (h .bottom .0 ≡ 0 → ⊥) → length m ≡ h .len → soundNumbers h ≡ false → outcome c h m ≡ refused NotSound
-  unfolding outcome
-  outcome-5 n d e =
-      let ks = holes h m in
-      decided-later c (length m) h ks later ∙ unless-5 (length m) h ks (rest c h ks) (accepted c (length m) h ks) n d e
+  outcome-5 n d e = tested ∙ unless-5 (length m) h (holes h m) _ _ n d e
 
   -- the numbers pass: the holes, and then the tests behind 5
   pub outcome-fair : length m ≡ h .len → soundNumbers h ≡ true
       → outcome c h m ≡ sifted h (holes h m) (unless (rest c h (holes h m)) (accepted c (length m) h (holes h m)))
-  unfolding outcome
   outcome-fair d e =
-      let ks = holes h m in
-      let f = sound-fair h e in
-      decided-later c (length m) h ks later
-      ∙ unless-fair (length m) h ks (rest c h ks) (accepted c (length m) h ks) (λ z. omega arith) d e
-
--- ---- the layout that a call names
-
-module _ (s align : ℕ) where
-  pub layout-refused : layoutOf s align ≡ Bad → any (refusal6 s align) ≡ true
-  unfolding layoutOf
-  layout-refused e =
-      cases (any (refusal6 s align))
-      (λ t. t)
-      (λ t.
-      let g : layoutOf s align ≡ Rounded (rounded s) = rw t in
-      let z : _≡_ {A = ℕ} 0 1 = cc in
-      absurd (omega arith))
-
-  pub layout-granted : {w : ℕ} → layoutOf s align ≡ Rounded w → (any (refusal6 s align) ≡ false) × (w ≡ rounded s)
-  unfolding layoutOf
-  layout-granted {w} e =
-      cases (any (refusal6 s align))
-      (λ t.
-      let b : layoutOf s align ≡ Bad = rw t in
-      let z : _≡_ {A = ℕ} 0 1 = cc in
-      absurd (omega arith))
-      (λ t.
-      let g : layoutOf s align ≡ Rounded (rounded s) = rw t in
-      let r : w ≡ rounded s = cc in
-      (t, r))
+      let f = sound-fair h e in tested ∙ unless-fair (length m) h (holes h m) _ _ (λ z. omega arith) d e
 
 -- ---- call by call
 
@@ -179,7 +145,7 @@ module _ (base : Addr) (named : ℕ) (h : Heap) (m : List ℕ) where
   unfolding outcome decided tests unless
   opening-1 z e = rw (eq-eqb (h .bottom .0) 0 z, e)
 
-  pub opening-on : h .bottom .0 ≡ 0 → any (refusal1 (length m) base named) ≡ false
+  opening-on : h .bottom .0 ≡ 0 → any (refusal1 (length m) base named) ≡ false
       → outcome (opening base named) h m
       ≡ done (Opening (raised grain base) (onlyHole base named .size)) (opened (length m) base named) (onlyHole base named ∷ [])
   unfolding outcome decided tests unless accepted

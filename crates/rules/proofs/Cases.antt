@@ -1,7 +1,8 @@
--- Going by cases on a test, with the test's equation in hand; lists of tests, test by test. Assumes nothing.
-use mathlib.Core.Path.{_≡_, refl, sym, _∙_}
-use mathlib.Core.Bool.{Bool, true, false, _&&_, _||_, not, cond}
-use mathlib.Core.List.{List, [], _∷_}
+-- Going by cases on a test, with the test's equation in hand; lists of tests, test by test; one of a list. Assumes nothing.
+use mathlib.Core.Path.{_≡_, refl, sym, subst, _∙_}
+use mathlib.Core.Bool.{Bool, true, false, _&&_, _||_, cond, or-false}
+use mathlib.Core.List.{List, [], _∷_, List·Memᴰ, List·Memᴰ·head, List·Memᴰ·tail, List·Memᴰ·cases-cons}
+use mathlib.Core.Logic.{⊎-elim}
 use Prim.Native.Nat.{ℕ, _≤_, _<_}
 use native.Mathlib.Omega.{arith}
 use lib.Dec.{leb, eqb}
@@ -53,8 +54,7 @@ or-right false b e = e
 
 -- the last of several tests, once the others have failed
 pub last : (a : Bool) → (a || false) ≡ true → a ≡ true
-last true e = refl
-last false e = e
+last a e = sym (or-false a) ∙ e
 
 pub neither : {a b : Bool} → a ≡ false → b ≡ false → (a || b) ≡ false
 neither e f = rw e f
@@ -81,3 +81,19 @@ any-each (b ∷ bs) e = (or-left b (any bs) e, any-each bs (or-right b (any bs) 
 pub each-any : (bs : List Bool) → Each false bs → any bs ≡ false
 each-any [] p = refl
 each-any (b ∷ bs) p = neither (p .0) (each-any bs (p .1))
+
+-- ---- one of a list
+
+-- one of them has the property P
+abbrev pub Some : {A : Type 0} → (A → Type 0) → List A → Type 0
+Some {A} P ks = (k : A) × List·Memᴰ k ks × P k
+
+module _ {A : Type 0} (P : A → Type 0) {k : A} {ks : List A} where
+  pub some-first : P k → Some P (k ∷ ks)
+  some-first p = (k, List·Memᴰ·head refl, p)
+
+  pub some-later : Some P ks → Some P (k ∷ ks)
+  some-later s = (s .0, List·Memᴰ·tail (s .1), s .2)
+
+  pub some-cases {ℓ} : {X : Type ℓ} → Some P (k ∷ ks) → (P k → X) → (Some P ks → X) → X
+  some-cases (j, m, p) f g = ⊎-elim (λ e. f (subst P e p)) (λ t. g (j, t, p)) (List·Memᴰ·cases-cons m)

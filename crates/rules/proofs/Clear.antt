@@ -1,20 +1,21 @@
 -- What stands against a free: of the holes only the one before the span and the one behind it can. Assumes nothing.
 use mathlib.Core.Path.{_≡_, refl, sym}
 use mathlib.Core.Bool.{Bool, true, false, _||_, or-assoc, or-true}
-use mathlib.Core.List.{List, [], _∷_, _++_, append-assoc}
-use Prim.Native.Nat.{ℕ, _+_, _-_, _≤_, _<_}
-use native.Mathlib.Omega.{arith}
+use mathlib.Core.List.{List, [], _∷_, _++_}
+use Prim.Native.Nat.{ℕ, _+_, _-_, _%_, _≤_, _<_}
+use native.Mathlib.Omega.{arith, by-contra}
 use lib.Dec.{eqb, ltb}
-use borrow.Author.Tests.{ltb-false, le-ltb, lt-ltb, eq-eqb, ne-eqb}
+use borrow.Author.Tests.{ltb-false, eqb-true, eqb-false, not-false, le-ltb, lt-ltb, eq-eqb, ne-eqb}
 use Rattle.rules.specs.declared.Hole.{Hole}
+use Rattle.rules.specs.declared.Heap.{Heap}
 use Rattle.rules.specs.Fixed.{minSize, grain}
 use Rattle.rules.specs.Tests.{all, any}
 use Rattle.rules.specs.Kinds.{before}
 use Rattle.rules.specs.Holes.{end, total}
-use Rattle.rules.specs.Free.{freed, overlaps, eight, eightToHole}
-use Rattle.rules.proofs.Cases.{cases, by-le, apart, or-left, or-right, neither}
+use Rattle.rules.specs.Free.{overlaps, eight, eightToHole}
+use Rattle.rules.specs.Refusals.{refusal8}
+use Rattle.rules.proofs.Cases.{cases, by-le, apart, or-left, or-right, neither, any-each}
 use Rattle.rules.proofs.Rises.{Rises, rises-le, endOr, rises-front, rises-back}
-use Rattle.rules.proofs.Freed.{Beyond, last-end, freed-rises}
 
 -- ---- the tests on one hole
 
@@ -38,11 +39,6 @@ eight-append g [] ys = refl
 eight-append g (k ∷ xs) ys =
     rw (eight-append g xs ys) (sym (or-assoc (near g k) (eightToHole g xs) (eightToHole g ys)))
 
-pub total-append : (xs ys : List Hole) → total (xs ++ ys) ≡ total xs + total ys
-unfolding total
-total-append [] ys = omega arith
-total-append (k ∷ xs) ys = omega (arith, total-append xs ys)
-
 -- ---- a hole stands against it, wherever it lies in the list
 
 module _ (g k : Hole) (front back : List Hole) where
@@ -65,13 +61,6 @@ module _ (g k : Hole) (front back : List Hole) where
       rw (eight-append g front (k ∷ back), eq-eqb (end k .0 + grain) (g .addr .0) e, or-true (eqb (end g .0 + grain) (k .addr .0)))
       (or-true (eightToHole g front))
 
-  -- the same of the last hole before the span
-  pub overlaps-last : g .addr .0 < end k .0 → k .addr .0 < end g .0 → overlaps g ((front ++ (k ∷ [])) ++ back) ≡ true
-  overlaps-last l m = rw (append-assoc front (k ∷ []) back) (overlaps-at l m)
-
-  pub eight-last : end k .0 + grain ≡ g .addr .0 → eightToHole g ((front ++ (k ∷ [])) ++ back) ≡ true
-  eight-last e = rw (append-assoc front (k ∷ []) back) (eight-behind e)
-
 -- ---- none does
 
 -- the holes neither overlap the span nor lie exactly 8 bytes from it
@@ -82,7 +71,51 @@ Clear g ks = (overlaps g ks ≡ false) × (eightToHole g ks ≡ false)
 abbrev pub Follows : ℕ → ℕ → Type 0
 Follows b a = (a ≤ b) × (a + grain ≡ b → ⊥)
 
-one-before : (g k : Hole) (ks : List Hole) → Follows (g .addr .0) (end k .0) → Clear g ks → Clear g (k ∷ ks)
+-- what refusal 8 lets through: a span at a multiple of 8, clear of the holes, that follows bottom and that top follows
+pub record Passed (h : Heap) (ks : List Hole) (g : Hole) : Type 0 where
+  pub at8 : g .addr .0 % grain ≡ 0
+  pub low : Follows (g .addr .0) (h .bottom .0)
+  pub high : Follows (h .top .0) (end g .0)
+  pub clear : Clear g ks
+
+pub passed : (h : Heap) (ks : List Hole) (g : Hole) (align : ℕ) → any (refusal8 h ks g align) ≡ false → Passed h ks g
+passed h ks g align e =
+    let r = any-each (refusal8 h ks g align) e in
+    record {
+      at8 = eqb-true (g .addr .0 % grain) 0 (not-false _ (r .0));
+      low = (
+        ltb-false (g .addr .0) (h .bottom .0) (r .1 .1 .0),
+        eqb-false (h .bottom .0 + grain) (g .addr .0) (r .1 .1 .1 .1 .1 .1 .0),
+      );
+      high = (
+        ltb-false (h .top .0) (end g .0) (r .1 .1 .1 .0),
+        eqb-false (end g .0 + grain) (h .top .0) (r .1 .1 .1 .1 .1 .1 .1 .0),
+      );
+      clear = (r .1 .1 .1 .1 .0, r .1 .1 .1 .1 .1 .0);
+    }
+
+-- ---- hole by hole
+
+pub clear-rest : (g k : Hole) (ks : List Hole) → Clear g (k ∷ ks) → Clear g ks
+unfolding overlaps eightToHole
+clear-rest g k ks c = (or-right (overlap g k) (overlaps g ks) (c .0), or-right (near g k) (eightToHole g ks) (c .1))
+
+-- a hole that the span is clear of follows it, or it follows the hole
+pub clear-follows : (g k : Hole) (ks : List Hole) → Clear g (k ∷ ks) → minSize ≤ k .size → g .addr .0 < k .addr .0
+    → Follows (k .addr .0) (end g .0)
+clear-follows g k ks c n l = (
+  by-contra (end g .0) (k .addr .0) (λ d. apart (overlaps-at g k [] ks (omega arith) d) (c .0)),
+  λ e. apart (eight-before g k [] ks e) (c .1),
+)
+
+pub clear-followed : (g k : Hole) (ks : List Hole) → Clear g (k ∷ ks) → minSize ≤ g .size → k .addr .0 ≤ g .addr .0
+    → Follows (g .addr .0) (end k .0)
+clear-followed g k ks c n l = (
+  by-contra (end k .0) (g .addr .0) (λ d. apart (overlaps-at g k [] ks d (omega arith)) (c .0)),
+  λ e. apart (eight-behind g k [] ks e) (c .1),
+)
+
+pub one-before : (g k : Hole) (ks : List Hole) → Follows (g .addr .0) (end k .0) → Clear g ks → Clear g (k ∷ ks)
 unfolding overlaps eightToHole
 one-before g k ks f c =
     let a = le-ltb (g .addr .0) (end k .0) (f .0) in
@@ -108,23 +141,6 @@ abbrev pub ClearBehind : Hole → List Hole → Type 0
 ClearBehind g [] = Unit {0}
 ClearBehind g (k ∷ ks) = Follows (k .addr .0) (end g .0)
 
-pub clear-last : (g k : Hole) (front : List Hole) → Follows (g .addr .0) (end k .0) → ClearBefore g (front ++ (k ∷ []))
-clear-last g k [] f = f
-clear-last g k (j ∷ front) f = rw (last-end (end j .0) front k) f
-
-pub clear-beyond : (g : Hole) (back : List Hole) → minSize ≤ g .size → ClearBehind g back → Beyond g back
-clear-beyond g [] n f = tt
-clear-beyond g (k ∷ ks) n f = omega arith
-
-end-low : (lo : ℕ) (g : Hole) (front : List Hole) → lo ≤ g .addr .0 → ClearBefore g front → endOr lo front ≤ g .addr .0
-end-low lo g [] l f = l
-end-low lo g (k ∷ ks) l f = f .0
-
-rises-behind : (lo hi : ℕ) (g : Hole) (back : List Hole) → Rises lo hi back → end g .0 ≤ hi → ClearBehind g back
-    → Rises (end g .0) hi back
-rises-behind lo hi g [] r m f = m
-rises-behind lo hi g (k ∷ ks) r m f = (f .0, r .1, r .2)
-
 -- a hole has 16 bytes, so each one further from the span is clear of it
 clear-before : (lo : ℕ) (g : Hole) (ks : List Hole) → Rises lo (endOr lo ks) ks → ClearBefore g ks → Clear g ks
 unfolding overlaps eightToHole
@@ -149,18 +165,9 @@ clear-none lo hi g front back r a b =
     let y = clear-behind (endOr lo front) hi g back (rises-back lo hi front back r) b in
     (rw (overlaps-append g front back) (neither (x .0) (y .0)), rw (eight-append g front back) (neither (x .1) (y .1)))
 
--- so freed it lies among holes that rise
-pub clear-rises : (lo hi : ℕ) (g : Hole) (front back : List Hole) → Rises lo hi (front ++ back)
-    → lo ≤ g .addr .0 → end g .0 ≤ hi → minSize ≤ g .size → ClearBefore g front → ClearBehind g back
-    → Rises lo hi (freed g (front ++ back))
-clear-rises lo hi g front back r l m n a b =
-    freed-rises lo hi g front back (rises-front lo hi front back r) (end-low lo g front l a) n
-    (rises-behind (endOr lo front) hi g back (rises-back lo hi front back r) m b)
-    (clear-beyond g back n b)
-
 -- ---- the room that the holes leave
 
-pub rises-total : (lo hi : ℕ) (ks : List Hole) → Rises lo hi ks → total ks ≤ hi - lo
+rises-total : (lo hi : ℕ) (ks : List Hole) → Rises lo hi ks → total ks ≤ hi - lo
 unfolding total
 rises-total lo hi [] r = omega arith
 rises-total lo hi (k ∷ ks) r =

@@ -1,26 +1,21 @@
 -- How a call is decided: 3, 4 and the rules on the numbers first, then the rules on the holes, then the rest. Assumes nothing.
 use mathlib.Core.Path.{_≡_, refl}
-use mathlib.Core.Bool.{Bool, true, false, not, cond}
+use mathlib.Core.Bool.{Bool, true, false, cond}
 use mathlib.Core.List.{List, [], _∷_, _++_}
 use Prim.Native.Nat.{ℕ}
-use native.Mathlib.Omega.{arith}
-use lib.Dec.{eqb}
-use lib.ListN.{length}
 use borrow.Author.Tests.{eq-eqb, ne-eqb}
 use Rattle.rules.specs.declared.Addr.{Addr}
 use Rattle.rules.specs.declared.Hole.{Hole}
 use Rattle.rules.specs.declared.Heap.{Heap}
 use Rattle.rules.specs.declared.Refusal.the-variants.{Unopened, OtherLength, NotSound, BadLayout, BadSpan, PastArena}
-use Rattle.rules.specs.declared.Answer.the-variants.{Listed, Room}
-use Prim.Native.Nat.{_-_}
 use Rattle.rules.specs.Tests.{any}
-use Rattle.rules.specs.Holes.{hole, largest}
-use Rattle.rules.specs.Sound.{size, soundNumbers, soundHoles, sound}
-use Rattle.rules.specs.Allocate.{rounded, find}
-use Rattle.rules.specs.Calls.{Call, allocate, free, extend, list, room, Outcome, refused, told, taken, given, extended, accepted}
+use Rattle.rules.specs.Holes.{hole}
+use Rattle.rules.specs.Sound.{soundNumbers, soundHoles, sound}
+use Rattle.rules.specs.Allocate.{rounded}
+use Rattle.rules.specs.Calls.{Call, allocate, free, extend, list, room, Outcome, refused, given, extended, accepted}
 use Rattle.rules.specs.Refusals.{Test, test, openedTests, tests, unless, refusal6, refusal8, refusal9}
 use Rattle.rules.specs.Outcome.{decided}
-use Rattle.rules.proofs.Cases.{cases}
+use Rattle.rules.proofs.Cases.{cases, apart}
 
 -- an outcome, unless the holes break a rule
 unfoldable pub sifted : Heap → List Hole → Outcome → Outcome
@@ -79,10 +74,7 @@ Opens room = false
 pub decided-later : (c : Call) (len : ℕ) (h : Heap) (ks : List Hole) → Opens c ≡ false
     → decided c len h ks ≡ unless (openedTests len h ks ++ rest c h ks) (accepted c len h ks)
 unfolding decided tests
-decided-later (Call.opening base named) len h ks e = absurd (no-open e)
-  where
-    no-open : true ≡ false → ⊥
-    no-open e = let z : _≡_ {A = ℕ} 0 1 = cc in omega arith
+decided-later (Call.opening base named) len h ks e = apart refl e
 decided-later (allocate s align) len h ks e = refl
 decided-later (free a s align) len h ks e = refl
 decided-later (extend by) len h ks e = refl

@@ -1,12 +1,10 @@
 -- A heap stays sound where a span becomes free, below top or at a raised top, and where only pending changes. Assumes nothing.
-use mathlib.Core.Path.{_≡_, refl, sym, _∙_}
+use mathlib.Core.Path.{_≡_, refl}
 use mathlib.Core.Bool.{true, false}
 use mathlib.Core.List.{List, [], _∷_}
 use mathlib.Core.Logic.{inl, inr}
 use Prim.Native.Nat.{ℕ, _+_, _-_, _%_, _≤_}
 use native.Mathlib.Omega.{arith}
-use lib.Dec.{eqb}
-use borrow.Author.Tests.{ltb-false, leb-true, eqb-true, eqb-false, not-false, le-ltb, eq-eqb, ne-eqb}
 use Rattle.rules.specs.declared.Addr.{Addr}
 use Rattle.rules.specs.declared.Hole.{Hole}
 use Rattle.rules.specs.declared.Heap.{Heap}
@@ -19,48 +17,28 @@ use Rattle.rules.specs.Free.{freed, overlaps, eightToHole}
 use Rattle.rules.specs.Calls.{renewed}
 use Rattle.rules.specs.Refusals.{refusal8}
 use Rattle.rules.specs.InWords.{Gap}
-use Rattle.rules.proofs.Cases.{and-left, and-right, both, all-each, any-each}
-use Rattle.rules.proofs.Walk.{Fair, headRules, behind, walks, floorOf, sound-walks}
+use Rattle.rules.proofs.Walk.{Fair, behind, walks, floorOf, walks-head, walks-tail, ends-cases, sound-walk, sound-sum, walk-sound}
+use Rattle.rules.proofs.Floors.{raised-walk}
 use Rattle.rules.proofs.Rises.{sound-rises}
-use Rattle.rules.proofs.Freed.{freed-total}
-use Rattle.rules.proofs.Clear.{Clear, Follows, clear-room}
-use Rattle.rules.proofs.FreedWalk.{walks-head, walks-tail, ends-cases, walks-raised, Span, floor-walks}
-
--- ---- soundness as the walk and the sum
-
-module _ (h : Heap) (f : Fair h) (ks : List Hole) where
-  sound-walk : soundHoles h ks ≡ true → walks h (floorOf h ks) ks ≡ true
-  sound-walk e =
-      and-left (walks h (floorOf h ks) ks) (eqb (total ks + h .used) (size h)) (sym (sound-walks h f ks) ∙ e)
-
-  pub sound-sum : soundHoles h ks ≡ true → total ks + h .used ≡ size h
-  sound-sum e =
-      eqb-true (total ks + h .used) (size h)
-      (and-right (walks h (floorOf h ks) ks) (eqb (total ks + h .used) (size h)) (sym (sound-walks h f ks) ∙ e))
-
-  walk-sound : walks h (floorOf h ks) ks ≡ true → total ks + h .used ≡ size h → soundHoles h ks ≡ true
-  walk-sound w e = sound-walks h f ks ∙ both w (eq-eqb (total ks + h .used) (size h) e)
-
-floor-same : (h h′ : Heap) (ks : List Hole) → h .bottom ≡ h′ .bottom → floorOf h ks ≡ floorOf h′ ks
-unfolding floorOf
-floor-same h h′ [] e = rw e
-floor-same h h′ (k ∷ ks) e = rw e
+use Rattle.rules.proofs.Sums.{freed-total}
+use Rattle.rules.proofs.Clear.{Clear, Follows, passed, one-before, clear-room}
+use Rattle.rules.proofs.FreedWalk.{Span, floor-walks}
 
 -- a heap with the same bottom, and a top that stays or rises by 16 bytes or more
 module _ (h h′ : Heap) (f : Fair h) (f′ : Fair h′) (b : h .bottom ≡ h′ .bottom) (t : Gap (h .top .0) (h′ .top .0)) (ks : List Hole)
     (e : soundHoles h ks ≡ true) where
-  raised-walk : walks h′ (floorOf h′ ks) ks ≡ true
-  raised-walk = rw (floor-same h h′ ks b) at (walks-raised h h′ (floorOf h ks) ks t (sound-walk h f ks e))
+  walked : walks h′ (floorOf h′ ks) ks ≡ true
+  walked = raised-walk h h′ ks b t (sound-walk h f ks e)
 
   -- with the same holes
-  pub stays-sound : total ks + h′ .used ≡ size h′ → soundHoles h′ ks ≡ true
-  stays-sound s = walk-sound h′ f′ ks raised-walk s
+  stays-sound : total ks + h′ .used ≡ size h′ → soundHoles h′ ks ≡ true
+  stays-sound s = walk-sound h′ f′ ks walked s
 
   -- with a span among them
   freed-sound : (g : Hole) → Span h′ g → Follows (g .addr .0) (h′ .bottom .0) → Clear g ks
       → total ks + g .size + h′ .used ≡ size h′ → soundHoles h′ (freed g ks) ≡ true
   freed-sound g s l c z =
-      walk-sound h′ f′ (freed g ks) (floor-walks h′ g ks f′ s l raised-walk c) (omega (arith, freed-total g ks))
+      walk-sound h′ f′ (freed g ks) (floor-walks h′ g ks f′ s l walked c) (omega (arith, freed-total g ks))
 
 -- ---- free
 
@@ -69,60 +47,39 @@ pub renewed-fair : (h : Heap) (ks : List Hole) (used : ℕ) → Fair h → Fair 
 renewed-fair h ks used f = omega arith
 
 module _ (h : Heap) (f : Fair h) (ks : List Hole) (g : Hole) (align : ℕ) (pass : any (refusal8 h ks g align) ≡ false) where
-  passed-clear : Clear g ks
-  passed-clear = let r = any-each (refusal8 h ks g align) pass in (r .1 .1 .1 .1 .0, r .1 .1 .1 .1 .1 .0)
-
   -- so used does not fall below 0
   pub free-room : soundHoles h ks ≡ true → g .size ≤ h .used
   free-room e =
-      let r = any-each (refusal8 h ks g align) pass in
-      let from = ltb-false (g .addr .0) (h .bottom .0) (r .1 .1 .0) in
-      let to = ltb-false (h .top .0) (end g .0) (r .1 .1 .1 .0) in
+      let p = passed h ks g align pass in
       omega (
         arith,
-        clear-room (h .bottom .0) (h .top .0) g ks (sound-rises h f ks e) from to (passed-clear .0),
+        clear-room (h .bottom .0) (h .top .0) g ks (sound-rises h f ks e) (p .low .0) (p .high .0) (p .clear .0),
         sound-sum h f ks e,
       )
 
   pub free-sound : soundHoles h ks ≡ true → g .size % grain ≡ 0 → minSize ≤ g .size
       → soundHoles (renewed h (freed g ks) (h .top) (h .pending) (h .used - g .size)) (freed g ks) ≡ true
   free-sound e s8 s16 =
-      let r = any-each (refusal8 h ks g align) pass in
+      let p = passed h ks g align pass in
       let h′ = renewed h (freed g ks) (h .top) (h .pending) (h .used - g .size) in
       let span : Span h′ g =
-      record {
-        at8 = eqb-true (g .addr .0 % grain) 0 (not-false _ (r .0));
-        size8 = s8;
-        sixteen = s16;
-        to = ltb-false (h .top .0) (end g .0) (r .1 .1 .1 .0);
-        high = eqb-false (end g .0 + grain) (h .top .0) (r .1 .1 .1 .1 .1 .1 .1 .0);
-      } in
-      freed-sound h h′ f (renewed-fair h (freed g ks) (h .used - g .size) f) refl (inl refl) ks e g span
-      (ltb-false (g .addr .0) (h .bottom .0) (r .1 .1 .0), eqb-false (h .bottom .0 + grain) (g .addr .0) (r .1 .1 .1 .1 .1 .1 .0))
-      passed-clear
+      record { at8 = p .at8; size8 = s8; sixteen = s16; to = p .high .0; high = p .high .1 } in
+      freed-sound h h′ f (renewed-fair h (freed g ks) (h .used - g .size) f) refl (inl refl) ks e g span (p .low) (p .clear)
       (omega (arith, free-room e, sound-sum h f ks e))
 
 -- ---- extend
 
 behind-top : (h : Heap) (k : Hole) (ks : List Hole) → walks h (behind k) ks ≡ true → end k .0 + grain ≡ h .top .0 → ⊥
-unfolding walks
-behind-top h k [] w e = ends-cases h (behind k) w (λ l. omega arith) (λ q. omega arith)
-behind-top h k (j ∷ js) w e = let q = all-each (headRules h (behind k) j) (and-left _ _ w) in omega (arith, leb-true)
+behind-top h k [] w e = ends-cases h (behind k) (unfold walks in w) (λ l. omega arith) (λ q. omega arith)
+behind-top h k (j ∷ js) w e = omega (arith, walks-head h (behind k) j js w)
 
 -- a span at top is clear of all holes
 clear-top : (h : Heap) (floor : Addr) (g : Hole) (ks : List Hole) → h .top .0 ≡ g .addr .0 → walks h floor ks ≡ true → Clear g ks
-unfolding overlaps eightToHole
-clear-top h floor g [] t w = (refl, refl)
+clear-top h floor g [] t w = unfold overlaps eightToHole in (refl, refl)
 clear-top h floor g (k ∷ ks) t w =
-    let q = all-each (headRules h floor k) (walks-head h floor k ks w) in
+    let q = walks-head h floor k ks w in
     let rest = walks-tail h floor k ks w in
-    let l : end k .0 ≤ g .addr .0 = omega (arith, leb-true) in
-    let n : minSize ≤ k .size = omega (arith, leb-true) in
-    let a = le-ltb (g .addr .0) (end k .0) l in
-    let b = ne-eqb (end g .0 + grain) (k .addr .0) (λ e. omega (arith, e)) in
-    let d = ne-eqb (end k .0 + grain) (g .addr .0) (λ e. behind-top h k ks rest (omega arith)) in
-    let c = clear-top h (behind k) g ks t rest in
-    (rw a (c .0), rw (b, d) (c .1))
+    one-before g k ks (omega arith, λ e. behind-top h k ks rest (omega arith)) (clear-top h (behind k) g ks t rest)
 
 module _ (h : Heap) (f : Fair h) (ks : List Hole) (e : soundHoles h ks ≡ true) (pending : ℕ) (p : pending ≤ 15) where
   -- only pending changes

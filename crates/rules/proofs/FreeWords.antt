@@ -1,6 +1,6 @@
 -- What free and extend do, in the paper's words. Assumes nothing.
 use mathlib.Core.Path.{_≡_, refl, _∙_}
-use mathlib.Core.Bool.{true, false}
+use mathlib.Core.Bool.{true}
 use mathlib.Core.List.{List}
 use mathlib.Core.Logic.{inl, inr}
 use Prim.Native.Nat.{ℕ, _+_, _-_, _%_, _≤_}
@@ -11,32 +11,24 @@ use Rattle.rules.specs.declared.Hole.{Hole}
 use Rattle.rules.specs.declared.Heap.{Heap}
 use Rattle.rules.specs.Fixed.{minSize, grain}
 use Rattle.rules.specs.Round.{downTo}
-use Rattle.rules.specs.Tests.{any}
 use Rattle.rules.specs.Kinds.{plus}
 use Rattle.rules.specs.Holes.{hole}
 use Rattle.rules.specs.Sound.{soundHoles, holes}
 use Rattle.rules.specs.Allocate.{rounded}
 use Rattle.rules.specs.Free.{freed}
 use Rattle.rules.specs.Calls.{free, extend, renewed, given, grown, gathered, extended, accepted}
-use Rattle.rules.specs.Refusals.{unless, refusal8}
-use Rattle.rules.specs.Behaviour.{ours, Good}
+use Rattle.rules.specs.Refusals.{unless}
+use Rattle.rules.specs.Behaviour.{ours}
 use Rattle.rules.specs.Statements.{Joined, FreeDoes, ExtendGathers, ExtendGrows}
-use Rattle.rules.proofs.Cases.{cases}
 use Rattle.rules.proofs.Multiples.{below-is}
 use Rattle.rules.proofs.Powers.{power-pos, grain-power}
-use Rattle.rules.proofs.Walk.{Fair, sound-fair, fair-sound}
+use Rattle.rules.proofs.Walk.{Fair}
 use Rattle.rules.proofs.Rises.{sound-rises}
-use Rattle.rules.proofs.SoundWords.{rounds-rounded, numbers-words, words-numbers, holes-words, words-holes}
-use Rattle.rules.proofs.TestWords.{no-span}
-use Rattle.rules.proofs.Good.{good-outcome, valid-passes, renewed-becomes}
+use Rattle.rules.proofs.SoundWords.{rounds-rounded, fair-words}
+use Rattle.rules.proofs.TestWords.{means-fails, no-span}
+use Rattle.rules.proofs.Good.{good-fair, good-holes, good-rises, good-outcome, valid-passes, renewed-becomes}
 use Rattle.rules.proofs.FreeKept.{renewed-fair, free-room, free-sound, grow-fair, grow-sound}
 use Rattle.rules.proofs.Vacancy.{freed-vacates}
-
-good-fair : (h : Heap) (m : List ℕ) → Good ours h m → Fair h
-good-fair h m g = sound-fair h (words-numbers h (g .1 .0))
-
-good-holes : (h : Heap) (m : List ℕ) → Good ours h m → soundHoles h (holes h m) ≡ true
-good-holes h m g = words-holes h (holes h m) (g .1 .1)
 
 -- a sound heap with a span among its holes
 freed-joined : (h : Heap) (ks : List Hole) (g : Hole) (top : Addr) (pending used : ℕ)
@@ -49,7 +41,7 @@ freed-joined h ks g top pending used f e =
       vacant = λ y v. freed-vacates g ks y .0 v;
       stays = λ y v. freed-vacates g ks y .1 (inl v);
       becomes-free = λ y w. freed-vacates g ks y .1 (inr w);
-      sound = (numbers-words h′ (fair-sound h′ f), holes-words h′ (freed g ks) e);
+      sound = fair-words h′ (freed g ks) f e;
       becomes =
           renewed-becomes h (freed g ks) top pending used (h .bottom .0) (top .0) (f .bottom) (sound-rises h′ f (freed g ks) e);
     }
@@ -63,8 +55,7 @@ free-does h m x s align r g v n =
     let f = good-fair h m g in
     let e = good-holes h m g in
     let is : r ≡ rounded s = rounds-rounded (v .rounds) in
-    let pass : any (refusal8 h ks (hole x r) align) ≡ false =
-    cases (any (refusal8 h ks (hole x r) align)) (λ t. absurd (n (no-span x r h ks align .0 t))) (λ t. t) in
+    let pass = means-fails (no-span x r h ks align) n in
     let new = freed (hole x r) ks in (
       renewed h new (h .top) (h .pending) (h .used - r),
       new,
@@ -79,13 +70,12 @@ free-does h m x s align r g v n =
 pub extend-gathers : ExtendGathers ours
 unfolding unless accepted extended gathered
 extend-gathers h m by g l small =
-    let ks = holes h m in
-    let f = good-fair h m g in (
+    let ks = holes h m in (
       renewed h ks (h .top) (h .pending + by) (h .used),
       good-outcome (extend by) h m refl g
           ∙ rw (le-ltb (h .base .0 + h .len) (h .top .0 + h .pending + by) l, lt-ltb (h .pending + by) minSize small),
-      renewed-becomes h ks (h .top) (h .pending + by) (h .used) (h .bottom .0) (h .top .0) (f .bottom)
-          (sound-rises h f ks (good-holes h m g)),
+      renewed-becomes h ks (h .top) (h .pending + by) (h .used) (h .bottom .0) (h .top .0) (good-fair h m g .bottom)
+          (good-rises h m g),
     )
 
 pub extend-grows : ExtendGrows ours

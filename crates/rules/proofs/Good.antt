@@ -1,7 +1,7 @@
 -- A call on a good heap: the tests of 3, 4 and 5 pass, a valid layout passes 6, and the heap becomes what its new holes make it.
 -- Assumes nothing.
 use mathlib.Core.Path.{_≡_, refl, _∙_}
-use mathlib.Core.Bool.{false}
+use mathlib.Core.Bool.{true, false}
 use mathlib.Core.List.{List}
 use Prim.Native.Nat.{ℕ, _-_, _≤_}
 use native.Mathlib.Omega.{arith}
@@ -14,36 +14,49 @@ use Rattle.rules.specs.declared.Heap.{Heap}
 use Rattle.rules.specs.Fixed.{addrLimit, width}
 use Rattle.rules.specs.Tests.{any}
 use Rattle.rules.specs.Holes.{firstOf}
-use Rattle.rules.specs.Sound.{most, holes}
+use Rattle.rules.specs.Sound.{most, soundHoles, holes}
 use Rattle.rules.specs.Allocate.{rounded}
 use Rattle.rules.specs.Calls.{Call, accepted, renewed}
 use Rattle.rules.specs.Refusals.{refusal6, unless}
-use Rattle.rules.specs.Outcome.{outcome}
+use Rattle.rules.specs.Outcome.{decided, outcome}
+use Rattle.rules.specs.InWords.{Sound}
 use Rattle.rules.specs.InWords.{Valid}
 use Rattle.rules.specs.Behaviour.{ours, Good}
 use Rattle.rules.specs.Statements.{Becomes}
 use Rattle.rules.proofs.Powers.{power-one}
-use Rattle.rules.proofs.Walk.{sound-fair, sound-count}
+use Rattle.rules.proofs.Walk.{Fair, sound-count}
 use Rattle.rules.proofs.Rises.{Rises, sound-rises}
 use Rattle.rules.proofs.Decide.{sifted, unless-fair, rest, Opens, decided-later}
-use Rattle.rules.proofs.SoundWords.{rounds-rounded, words-numbers, words-holes}
+use Rattle.rules.proofs.SoundWords.{rounds-rounded, words-fair, words-numbers, words-holes}
 
--- of its tests only those behind 5 are left
-pub good-outcome : (c : Call) (h : Heap) (m : List ℕ) → Opens c ≡ false → Good ours h m
-    → outcome c h m ≡ unless (rest c h (holes h m)) (accepted c (length m) h (holes h m))
-unfolding outcome sifted
-good-outcome c h m later g =
-    let ks = holes h m in
-    let opened : h .bottom .0 ≡ 0 → ⊥ = λ e. omega (arith, g .1 .0 .base, g .1 .0 .bottom .above) in
-    decided-later c (length m) h ks later
-    ∙ unless-fair (length m) h ks (rest c h ks) (accepted c (length m) h ks) opened (g .0) (words-numbers h (g .1 .0))
-    ∙ rw (words-holes h ks (g .1 .1))
+pub good-fair : (h : Heap) (m : List ℕ) → Good ours h m → Fair h
+good-fair h m g = words-fair h (g .1 .0)
+
+pub good-holes : (h : Heap) (m : List ℕ) → Good ours h m → soundHoles h (holes h m) ≡ true
+good-holes h m g = words-holes h (holes h m) (g .1 .1)
 
 pub good-rises : (h : Heap) (m : List ℕ) → Good ours h m → Rises (h .bottom .0) (h .top .0) (holes h m)
-good-rises h m g = sound-rises h (sound-fair h (words-numbers h (g .1 .0))) (holes h m) (words-holes h (holes h m) (g .1 .1))
+good-rises h m g = sound-rises h (good-fair h m g) (holes h m) (good-holes h m g)
 
 pub good-count : (h : Heap) (m : List ℕ) → Good ours h m → length (holes h m) ≤ most h
-good-count h m g = sound-count h (sound-fair h (words-numbers h (g .1 .0))) (holes h m) (words-holes h (holes h m) (g .1 .1))
+good-count h m g = sound-count h (good-fair h m g) (holes h m) (good-holes h m g)
+
+-- ---- a call
+
+-- on a sound heap only the tests behind 5 are left
+pub sound-decided : (c : Call) (len : ℕ) (h : Heap) (ks : List Hole) → Opens c ≡ false → len ≡ h .len → Sound h ks
+    → decided c len h ks ≡ unless (rest c h ks) (accepted c len h ks)
+unfolding sifted
+sound-decided c len h ks later n s =
+    let f = words-fair h (s .0) in
+    decided-later c len h ks later
+    ∙ unless-fair len h ks (rest c h ks) (accepted c len h ks) (λ e. omega arith) n (words-numbers h (s .0))
+    ∙ rw (words-holes h ks (s .1))
+
+pub good-outcome : (c : Call) (h : Heap) (m : List ℕ) → Opens c ≡ false → Good ours h m
+    → outcome c h m ≡ unless (rest c h (holes h m)) (accepted c (length m) h (holes h m))
+unfolding outcome
+good-outcome c h m later g = sound-decided c (length m) h (holes h m) later (g .0) (g .1)
 
 pub valid-passes : (s align r : ℕ) → Valid s align r → any (refusal6 s align) ≡ false
 valid-passes s align r v =

@@ -1,6 +1,6 @@
 -- What a head written at a place leaves, and what a head read there is. Assumes nothing.
-use mathlib.Core.Path.{_≡_, sym, ap, _∙_}
-use mathlib.Core.Logic.{_⊎_, inl, inr}
+use mathlib.Core.Path.{_≡_, ap, _∙_}
+use mathlib.Core.Logic.{inl}
 use mathlib.Core.List.{List, _++_}
 use Prim.Native.Nat.{ℕ, _+_, _^_, _≤_, _<_}
 use native.Mathlib.Omega.{arith}
@@ -14,7 +14,6 @@ use Rattle.rules.proofs.Words.{
   Bytes,
   Agree,
   word-agree,
-  word8-lt,
   word-else,
   word-store,
   store-length,
@@ -22,8 +21,6 @@ use Rattle.rules.proofs.Words.{
   store-above,
   store-bytes,
   store-same,
-  store-store,
-  store-comm,
   take-store-le,
   drop-store-le,
   take-store,
@@ -64,19 +61,6 @@ head-agree m m′ p a =
     let next = word-agree 8 m m′ (p .0 + 8) (λ j u v. a j (omega arith) (omega arith)) in
     rw (size, next)
 
--- both of its numbers fit 64 digits
-pub head-lt : (m : List ℕ) (p : Place) → Bytes m → (headAt m p .size < 2 ^ 64) × (headAt m p .next .0 < 2 ^ 64)
-unfolding headAt
-head-lt m p s = (word8-lt m (p .0) s, word8-lt m (p .0 + 8) s)
-
--- heads elsewhere stay
-pub head-else : (m : List ℕ) (p q : Place) (h : Head) → (q .0 + 16 ≤ p .0) ⊎ (p .0 + 16 ≤ q .0)
-    → headAt (putHead m p h) q ≡ headAt m q
-head-else m p q h (inl l) =
-    head-agree (putHead m p h) m q (λ j u v. putHead-below m p h j (omega arith))
-head-else m p q h (inr l) =
-    head-agree (putHead m p h) m q (λ j u v. putHead-above m p h j (omega arith))
-
 -- what was written is read back
 pub head-back : (m : List ℕ) (p : Place) (h : Head) → p .0 + 16 ≤ length m → h .size < 2 ^ 64 → h .next .0 < 2 ^ 64
     → headAt (putHead m p h) p ≡ h
@@ -99,38 +83,6 @@ head-same m p s =
     let size = store-same 8 m (p .0) s in
     let next = store-same 8 m (p .0 + 8) s in
     cc
-
--- of two heads at one place the last stays
-pub head-twice : (m : List ℕ) (p : Place) (g h : Head) → putHead (putHead m p g) p h ≡ putHead m p h
-unfolding putHead
-head-twice m p g h =
-    let m₁ = store 8 m (p .0) (g .size) in
-    let past = store-comm 8 8 m₁ (p .0 + 8) (g .next .0) (p .0) (h .size) (omega arith) in
-    let size = store-store 8 m (p .0) (g .size) (h .size) in
-    let next = store-store 8 (store 8 m (p .0) (h .size)) (p .0 + 8) (g .next .0) (h .next .0) in
-    cc
-
--- a word before a head may be written before it or after it
-store-head : (n : ℕ) (m : List ℕ) (p : Place) (h : Head) (j x : ℕ) → j + n ≤ p .0
-    → store n (putHead m p h) j x ≡ putHead (store n m j x) p h
-unfolding putHead
-store-head n m p h j x l =
-    let next = store-comm 8 n (store 8 m (p .0) (h .size)) (p .0 + 8) (h .next .0) j x (omega arith) in
-    let size = store-comm 8 n m (p .0) (h .size) j x l in
-    cc
-
-head-before : (m : List ℕ) (p q : Place) (g h : Head) → q .0 + 16 ≤ p .0
-    → putHead (putHead m p g) q h ≡ putHead (putHead m q h) p g
-head-before m p q g h l =
-    let size = store-head 8 m p g (q .0) (h .size) (omega arith) in
-    let next = store-head 8 (store 8 m (q .0) (h .size)) p g (q .0 + 8) (h .next .0) (omega arith) in
-    unfold putHead in cc
-
--- two heads that do not overlap may be written in either order
-pub head-comm : (m : List ℕ) (p q : Place) (g h : Head) → (q .0 + 16 ≤ p .0) ⊎ (p .0 + 16 ≤ q .0)
-    → putHead (putHead m p g) q h ≡ putHead (putHead m q h) p g
-head-comm m p q g h (inl l) = head-before m p q g h l
-head-comm m p q g h (inr l) = sym (head-before m q p h g l)
 
 -- ---- a head in a part
 

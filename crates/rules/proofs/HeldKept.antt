@@ -2,38 +2,37 @@
 -- its address suits it. Assumes nothing.
 use mathlib.Core.Path.{_≡_, refl, ap}
 use mathlib.Core.Bool.{true, false}
-use mathlib.Core.List.{List, [], _∷_, _++_, List·Memᴰ, List·Memᴰ·head, List·Memᴰ·tail, List·Memᴰ·not-nil, List·Memᴰ·cases-cons, Memᴰ·append-right}
+use mathlib.Core.List.{List, [], _∷_, List·Memᴰ, List·Memᴰ·head, List·Memᴰ·tail, List·Memᴰ·not-nil, List·Memᴰ·cases-cons, Memᴰ·append-right}
 use mathlib.Core.Logic.{⊎-elim}
 use Prim.Native.Nat.{ℕ, _+_, _-_, _%_, _^_, _<_}
 use native.Mathlib.Omega.{arith}
 use lib.Dec.{eqb, ltb}
-use borrow.Author.Tests.{ltb-false, eqb-true, eq-eqb, not-false}
+use borrow.Author.Tests.{eqb-true, eq-eqb}
 use Rattle.rules.specs.declared.Addr.{Addr}
 use Rattle.rules.specs.declared.Hole.{Hole}
 use Rattle.rules.specs.declared.Heap.{Heap}
 use Rattle.rules.specs.declared.Answer.{Answer}
-use Rattle.rules.specs.Fixed.{addrLimit, minSize, grain}
+use Rattle.rules.specs.Fixed.{minSize, grain}
 use Rattle.rules.specs.Round.{downTo}
 use Rattle.rules.specs.Tests.{any}
 use Rattle.rules.specs.Kinds.{addr, same}
 use Rattle.rules.specs.Holes.{hole, end}
 use Rattle.rules.specs.Sound.{soundHoles}
-use Rattle.rules.specs.Allocate.{rounded, Found, nothing, found, find, split}
+use Rattle.rules.specs.Allocate.{rounded, Found, nothing, found, find}
 use Rattle.rules.specs.Calls.{Call, opening, allocate, free, extend, list, room, Outcome, done, onlyHole, opened, taken, given, grown, gathered, extended, accepted}
-use Rattle.rules.specs.Refusals.{onePower, refusal6, tests}
-use Rattle.rules.specs.Outcome.{decided}
+use Rattle.rules.specs.Refusals.{refusal6, tests}
 use Rattle.rules.specs.Runs.{Fits, Ask, calls, reads, AllFit, Block, block, sameBlock, without, Box, start, heldAfter, comesTo, boxAfter, nextBox, ends, HonestCall, Honest}
 use Rattle.rules.specs.InWords.{Valid}
-use Rattle.rules.proofs.Cases.{by-test, apart, all-each, each-all, any-each}
-use Rattle.rules.proofs.Layouts.{rounded-least}
+use Rattle.rules.proofs.Cases.{by-test, apart, all-each, each-all}
+use Rattle.rules.proofs.Layouts.{layout-passed}
 use Rattle.rules.proofs.Walk.{Fair}
 use Rattle.rules.proofs.SoundWords.{rounded-rounds, holes-words}
-use Rattle.rules.proofs.TestWords.{means-power}
-use Rattle.rules.proofs.Passes.{by-passes}
+use Rattle.rules.proofs.Passes.{Passes, by-decided}
 use Rattle.rules.proofs.Used.{find-splits}
 use Rattle.rules.proofs.Suits.{candidate-eight, found-lies}
 use Rattle.rules.proofs.SoundKept.{passed-stands}
-use Rattle.rules.proofs.Cover.{once, cover, once-behind, joined-once, cover-append, freed-cover, split-cover}
+use Rattle.rules.proofs.Sums.{added, freed-added, used-added}
+use Rattle.rules.proofs.Cover.{once, cover, once-behind, joined-once, once-adds}
 use Rattle.rules.proofs.Tiling.{span, spans, range, Filled}
 
 -- ---- the held blocks, one taken out
@@ -59,7 +58,7 @@ block-same b =
 
 without-cover : (y : ℕ) (b : Block) (bs : List Block) → List·Memᴰ b bs
     → cover y (spans (without b bs)) + once y (span b) ≡ cover y (spans bs)
-unfolding without cover
+unfolding without added
 without-cover y b [] m = absurd (List·Memᴰ·not-nil m)
 without-cover y b (c ∷ cs) m =
     by-test (λ (ds : List Block). cover y (spans ds) + once y (span b) ≡ once y (span c) + cover y (spans cs)) (sameBlock b c) cs
@@ -92,7 +91,7 @@ pub record Settled (b : Box) : Type 0 where
   pub each : (k : Block) → List·Memᴰ k (b .held) → Suited k
 
 pub start-settled : Settled start
-unfolding cover
+unfolding added
 start-settled =
     record {
       filled = λ y. omega (arith, once-behind y (hole (addr 0) 0) (omega arith));
@@ -100,14 +99,8 @@ start-settled =
     }
 
 passed-valid : (s align : ℕ) → align < 2 ^ 64 → any (refusal6 s align) ≡ false → Valid s align (rounded s)
-passed-valid s align l p =
-    let r = any-each (refusal6 s align) p in
-    record {
-      fits = l;
-      power = means-power align l .0 (not-false (onePower align) (r .0));
-      rounds = rounded-rounds s;
-      room = omega (arith, ltb-false (addrLimit - align) (rounded s) (r .1 .0), rounded-least s);
-    }
+passed-valid s align l e =
+    let v = layout-passed s align l e in record { fits = l; power = v .power; rounds = rounded-rounds s; room = v .room }
 
 -- ---- call by call
 
@@ -115,7 +108,7 @@ module _ (b : Box) (settled : Settled b) where
   taken-settled : (s align : ℕ) (f : Found) → Valid s align (rounded s) → soundHoles (b .heap) (b .holes) ≡ true
       → find (rounded s) align (b .holes) ≡ f
       → Settled (boxAfter (allocate s align) b (taken (rounded s) align (b .heap) (b .holes) f))
-  unfolding taken boxAfter heldAfter cover
+  unfolding taken boxAfter heldAfter added
   taken-settled s align nothing v sound e = settled
   taken-settled s align (found front k back) v sound e =
       let r = rounded s in
@@ -128,10 +121,7 @@ module _ (b : Box) (settled : Settled b) where
             omega (
               arith,
               rw (parts .0) at (settled .filled y),
-              cover-append y front (k ∷ back),
-              cover-append y front (split r align k ++ back),
-              cover-append y (split r align k) back,
-              split-cover y r align k lies,
+              used-added (once-adds y) r align k (lies .from) (lies .to) front back,
             );
         each =
             λ j m.
@@ -151,7 +141,7 @@ module _ (b : Box) (settled : Settled b) where
             omega (
               arith,
               settled .filled y,
-              freed-cover y (hole x (rounded s)) (b .holes),
+              freed-added (once-adds y) (hole x (rounded s)) (b .holes),
               without-cover y (block x s align) (b .held) m,
             );
         each = λ j t. settled .each j (without-member (block x s align) (b .held) j t);
@@ -172,7 +162,7 @@ module _ (b : Box) (settled : Settled b) where
             omega (
               arith,
               settled .filled y,
-              freed-cover y (hole (h .top) s) (b .holes),
+              freed-added (once-adds y) (hole (h .top) s) (b .holes),
               rw size at (joined-once y (range h) (hole (h .top) s) (omega arith)),
             );
         each = settled .each;
@@ -180,7 +170,7 @@ module _ (b : Box) (settled : Settled b) where
 
 opened-settled : (b : Box) (len : ℕ) (base : Addr) (named : ℕ)
     → Settled (boxAfter (opening base named) b (accepted (opening base named) len (b .heap) (b .holes)))
-unfolding accepted boxAfter heldAfter opened cover
+unfolding accepted boxAfter heldAfter opened added
 opened-settled b len base named =
     let k = onlyHole base named in
     let size : end k .0 - k .addr .0 ≡ k .size = omega arith in
@@ -188,43 +178,36 @@ opened-settled b len base named =
 
 -- ---- any call that is honest
 
+-- a refusal changes no box
+settles : (c : Call) (n : ℕ) (b : Box) → Settled b
+    → (Passes (tests c n (b .heap) (b .holes)) → Settled (boxAfter c b (accepted c n (b .heap) (b .holes))))
+    → Settled (boxAfter c b (comesTo c n b))
+settles c n b settled =
+    by-decided (λ (o : Outcome). Settled (boxAfter c b o)) c n (b .heap) (b .holes) (λ r. unfold boxAfter in settled)
+
 call-settled : (c : Call) (n : ℕ) (b : Box) → Fits c → HonestCall c n b → Settled b → Settled (boxAfter c b (comesTo c n b))
-unfolding decided tests boxAfter
-call-settled (opening base named) n b f t settled =
-    by-passes (λ (o : Outcome). Settled (boxAfter (opening base named) b o)) (tests (opening base named) n (b .heap) (b .holes)) _
-    (λ r. settled)
-    (λ p. opened-settled b n base named)
+unfolding tests boxAfter accepted
+call-settled (opening base named) n b f t settled = settles (opening base named) n b settled (λ p. opened-settled b n base named)
 call-settled (allocate s align) n b f t settled =
-    by-passes (λ (o : Outcome). Settled (boxAfter (allocate s align) b o)) (tests (allocate s align) n (b .heap) (b .holes)) _
-    (λ r. settled)
+    settles (allocate s align) n b settled
     (λ p.
-    unfold accepted in
     taken-settled b settled s align (find (rounded s) align (b .holes)) (passed-valid s align (f .1) (p .1 .1 .1 .0))
     (passed-stands n (b .heap) (b .holes) (p .1 .0) (p .1 .1 .0) .sound)
     refl)
 call-settled (free x s align) n b f t settled =
-    by-passes
+    by-decided
     (λ (o : Outcome).
     ((a : Answer) (h : Heap) (ks : List Hole) → o ≡ done a h ks → List·Memᴰ (block x s align) (b .held))
     → Settled (boxAfter (free x s align) b o))
-    (tests (free x s align) n (b .heap) (b .holes)) _
+    (free x s align) n (b .heap) (b .holes)
     (λ r q. settled)
-    (λ p q. unfold accepted in given-settled b settled x s align (unfold accepted given in q _ _ _ refl))
+    (λ p q. given-settled b settled x s align (unfold given in q _ _ _ refl))
     t
 call-settled (extend by) n b f t settled =
-    by-passes (λ (o : Outcome). Settled (boxAfter (extend by) b o)) (tests (extend by) n (b .heap) (b .holes)) _
-    (λ r. settled)
-    (λ p.
-    unfold accepted in
-    extended-settled b settled by (passed-stands n (b .heap) (b .holes) (p .1 .0) (p .1 .1 .0) .fair))
-call-settled list n b f t settled =
-    by-passes (λ (o : Outcome). Settled (boxAfter list b o)) (tests list n (b .heap) (b .holes)) _
-    (λ r. settled)
-    (λ p. unfold accepted in settled)
-call-settled room n b f t settled =
-    by-passes (λ (o : Outcome). Settled (boxAfter room b o)) (tests room n (b .heap) (b .holes)) _
-    (λ r. settled)
-    (λ p. unfold accepted in settled)
+    settles (extend by) n b settled
+    (λ p. extended-settled b settled by (passed-stands n (b .heap) (b .holes) (p .1 .0) (p .1 .1 .0) .fair))
+call-settled list n b f t settled = settles list n b settled (λ p. settled)
+call-settled room n b f t settled = settles room n b settled (λ p. settled)
 
 pub ends-settled : (asks : List Ask) (b : Box) → AllFit asks → Honest asks b → Settled b → Settled (ends asks b)
 unfolding ends nextBox

@@ -1,34 +1,32 @@
 -- Demand 3, on held blocks: in a run whose frees are honest, holes and held blocks tile the heap, a held block's free is accepted, and no
 -- call changes a byte of a block held before and after it. Assumes nothing.
 use mathlib.Core.Path.{_≡_, refl, ap, _∙_}
-use mathlib.Core.Bool.{false}
 use mathlib.Core.List.{List, [], _∷_, _++_, List·Memᴰ, List·Memᴰ·not-nil, Memᴰ·map, Memᴰ·append-left, Memᴰ·append-right, List·Memᴰ·append-cases, Memᴰ·of-map}
-use mathlib.Core.Logic.{_⊎_, inl, inr, ⊎-elim}
+use mathlib.Core.Logic.{inl, inr, ⊎-elim}
 use Prim.Native.Nat.{ℕ, _+_, _-_, _≤_, _<_}
 use native.Mathlib.Omega.{arith}
 use lib.Dec.{ltb}
 use lib.ListN.{length, getD}
-use borrow.Author.Tests.{eq-eqb, ne-eqb, eqb-true, not-false}
+use borrow.Author.Tests.{eqb-true, not-false}
 use Rattle.rules.specs.declared.Addr.{Addr}
 use Rattle.rules.specs.declared.Hole.{Hole}
 use Rattle.rules.specs.declared.Heap.{Heap}
 use Rattle.rules.specs.Fixed.{minSize}
-use Rattle.rules.specs.Tests.{any}
 use Rattle.rules.specs.Kinds.{addr, same}
 use Rattle.rules.specs.Sound.{holes}
 use Rattle.rules.specs.Allocate.{rounded, Found, nothing, found, find}
 use Rattle.rules.specs.Calls.{Call, opening, allocate, free, extend, list, room, Outcome, refused, told, done, taken, given, grown, gathered, extended, accepted}
-use Rattle.rules.specs.Refusals.{refusal8, tests, unless}
+use Rattle.rules.specs.Refusals.{tests, unless}
 use Rattle.rules.specs.Outcome.{decided, outcome, after, Rows}
 use Rattle.rules.specs.InWords.{endOf, Sound, NoSpan}
 use Rattle.rules.specs.Runs.{Fits, Ask, calls, reads, AllFit, Block, Box, start, comesTo, boxAfter, nextBox, ends}
-use Rattle.rules.specs.Demands.{Occupied, Tiles, HeldTile, HeldIsFreed, HeldUntouched}
-use Rattle.rules.proofs.Cases.{cases, by-le, by-test, or-left}
+use Rattle.rules.specs.Statements.{Occupied, Tiles, HeldTile, HeldIsFreed, HeldUntouched}
+use Rattle.rules.proofs.Cases.{by-le, by-test, or-left}
 use Rattle.rules.proofs.Layouts.{rounded-least}
-use Rattle.rules.proofs.SoundWords.{words-sound, rounded-rounds}
-use Rattle.rules.proofs.TestWords.{no-span}
-use Rattle.rules.proofs.Good.{valid-passes}
-use Rattle.rules.proofs.Passes.{by-passes}
+use Rattle.rules.proofs.SoundWords.{rounded-rounds}
+use Rattle.rules.proofs.TestWords.{means-fails, no-span}
+use Rattle.rules.proofs.Good.{sound-decided, valid-passes}
+use Rattle.rules.proofs.Passes.{Passes, by-decided}
 use Rattle.rules.proofs.SoundKept.{sound-kept}
 use Rattle.rules.proofs.MemoryWords.{memory}
 use Rattle.rules.proofs.Unaltered.{refusals-keep, tells-only}
@@ -100,21 +98,13 @@ module _ (b : Box) (settled : Settled b) (sound : Sound (b .heap) (b .holes)) (k
       no-eight-behind (range (b .heap)) (parts b) (filled-fills b (settled .filled)) big (span k) mine (omega (arith, within))
 
   is-freed : comesTo (free (k .addr) (k .size) (k .align)) (b .heap .len) b ≡ given (rounded (k .size)) (k .addr) (b .heap) (b .holes)
-  unfolding decided tests unless accepted
+  unfolding unless accepted
   is-freed =
       let h = b .heap in
-      let opened : h .bottom .0 ≡ 0 → ⊥ = λ e. omega (arith, sound .0 .base, sound .0 .bottom .above) in
-      let refuses = any (refusal8 h (b .holes) (span k) (k .align)) in
-      let pass : refuses ≡ false =
-      cases refuses
-      (λ t. absurd (may-be-freed (no-span (k .addr) (rounded (k .size)) h (b .holes) (k .align) .0 t)))
-      (λ t. t) in
-      rw (
-        ne-eqb (h .bottom .0) 0 opened,
-        eq-eqb (h .len) (h .len) refl,
-        words-sound h (b .holes) sound,
+      sound-decided (free (k .addr) (k .size) (k .align)) (h .len) h (b .holes) refl refl sound
+      ∙ rw (
         valid-passes (k .size) (k .align) (rounded (k .size)) (settled .each k m .valid),
-        pass,
+        means-fails (no-span (k .addr) (rounded (k .size)) h (b .holes) (k .align)) may-be-freed,
       )
 
 pub held-is-freed : HeldIsFreed
@@ -141,18 +131,18 @@ module _ (h : Heap) (ks : List Hole) where
   unfolding extended gathered grown
   extended-based by = by-test (Based h) (ltb (h .pending + by) minSize) _ _ (λ e. refl) (λ e. refl)
 
+  accepted-based : (c : Call) (len : ℕ) → (h .bottom .0 ≡ 0 → ⊥) → Passes (tests c len h ks) → Based h (accepted c len h ks)
+  unfolding tests accepted given
+  accepted-based (opening base named) len n p =
+      absurd (n (eqb-true (h .bottom .0) 0 (not-false (same (h .bottom) (addr 0)) (or-left _ _ (p .0)))))
+  accepted-based (allocate s align) len n p = taken-based (rounded s) align (find (rounded s) align ks)
+  accepted-based (free x s align) len n p = refl
+  accepted-based (extend by) len n p = extended-based by
+  accepted-based list len n p = tt
+  accepted-based room len n p = tt
+
   decided-based : (c : Call) (len : ℕ) → (h .bottom .0 ≡ 0 → ⊥) → Based h (decided c len h ks)
-  unfolding decided tests accepted given
-  decided-based (opening base named) len n =
-      by-passes (Based h) (tests (opening base named) len h ks) _ (λ r. tt)
-      (λ p. absurd (n (eqb-true (h .bottom .0) 0 (not-false (same (h .bottom) (addr 0)) (or-left _ _ (p .0))))))
-  decided-based (allocate s align) len n =
-      by-passes (Based h) (tests (allocate s align) len h ks) _ (λ r. tt)
-      (λ p. taken-based (rounded s) align (find (rounded s) align ks))
-  decided-based (free x s align) len n = by-passes (Based h) (tests (free x s align) len h ks) _ (λ r. tt) (λ p. refl)
-  decided-based (extend by) len n = by-passes (Based h) (tests (extend by) len h ks) _ (λ r. tt) (λ p. extended-based by)
-  decided-based list len n = by-passes (Based h) (tests list len h ks) _ (λ r. tt) (λ p. tt)
-  decided-based room len n = by-passes (Based h) (tests room len h ks) _ (λ r. tt) (λ p. tt)
+  decided-based c len n = by-decided (Based h) c len h ks (λ r. tt) (accepted-based c len n)
 
 -- a call writes heads only, and where holes and held blocks tile the heap no head lies in a held block
 module _ (c : Call) (h : Heap) (w : List ℕ) (b : Box) (fit : Fits c) (opened : h .bottom .0 ≡ 0 → ⊥) (y : ℕ) where

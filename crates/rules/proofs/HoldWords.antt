@@ -5,12 +5,11 @@ use Prim.Native.Nat.{ℕ, zero, suc, _+_, _<_}
 use native.Mathlib.Nat.{add-assoc}
 use native.Mathlib.Omega.{arith}
 use lib.ListN.{length}
-use borrow.Author.Tests.{ne-eqb}
 use Rattle.rules.specs.declared.Addr.{Addr}
 use Rattle.rules.specs.declared.Place.{Place}
 use Rattle.rules.specs.declared.Hole.{Hole}
 use Rattle.rules.specs.declared.Heap.{Heap}
-use Rattle.rules.specs.Kinds.{place, none}
+use Rattle.rules.specs.Kinds.{place}
 use Rattle.rules.specs.Words.{word}
 use Rattle.rules.specs.Holes.{headAt, holesFrom}
 use Rattle.rules.specs.Sound.{most, holes}
@@ -19,11 +18,10 @@ use Rattle.rules.specs.Outcome.{outcome, leaves, after}
 use Rattle.rules.specs.InWords.{number, Hold}
 use Rattle.rules.specs.Behaviour.{ours}
 use Rattle.rules.specs.Statements.{UnopenedIs, HolesMean, BytesStay}
-use Rattle.rules.proofs.Cases.{by-eq}
 use Rattle.rules.proofs.Words.{Bytes}
-use Rattle.rules.proofs.Lists.{from-none, from-step, putHeads-bytes}
-use Rattle.rules.proofs.Walk.{Fair, sound-fair, sound-count}
-use Rattle.rules.proofs.SoundWords.{words-numbers, words-holes}
+use Rattle.rules.proofs.Lists.{by-none, from-none, from-step, holes-read, putHeads-bytes}
+use Rattle.rules.proofs.Walk.{sound-count}
+use Rattle.rules.proofs.SoundWords.{words-fair, words-holes}
 
 pub unopened-is : UnopenedIs ours
 unopened-is = record { base = refl; len = refl; bottom = refl; top = refl; first = refl; pending = refl; used = refl }
@@ -58,8 +56,8 @@ from-hold : (n : ℕ) (base : Addr) (m : List ℕ) (p : Place) → length (holes
     → Hold (base .0) m (p .0) (holesFrom n base m p)
 from-hold zero base m p l = absurd (omega arith)
 from-hold (suc n) base m p l =
-    by-eq (p .0) (none .0)
-    (λ e. let q : p ≡ none = ap place e in rw (q, from-none (suc n) base m) refl)
+    by-none p
+    (λ e. rw (e, from-none (suc n) base m) refl)
     (λ some.
     let s = from-step n base m p some in
     let r : length (holesFrom n base m (headAt m p .next)) < n = omega (arith, rw s at l) in
@@ -68,18 +66,14 @@ from-hold (suc n) base m p l =
 
 -- ---- the heap
 
-holes-read : (h : Heap) (m : List ℕ) → Fair h → holes h m ≡ holesFrom (suc (most h)) (h .base) m (h .first)
-unfolding holes
-holes-read h m f = rw (ne-eqb (h .bottom .0) 0 (omega (arith, f .base, f .bottom)))
-
 pub holes-mean : HolesMean ours
 holes-mean h m = (
   λ ks s e.
-      let f = sound-fair h (words-numbers h (s .0)) in
+      let f = words-fair h (s .0) in
       let few = sound-count h f ks (words-holes h ks (s .1)) in
       holes-read h m f ∙ hold-from (suc (most h)) (h .base) m (h .first .0) ks (omega arith) e,
   λ s.
-      let f = sound-fair h (words-numbers h (s .0)) in
+      let f = words-fair h (s .0) in
       let few = sound-count h f (holes h m) (words-holes h (holes h m) (s .1)) in
       let r = holes-read h m f in
       rw r (from-hold (suc (most h)) (h .base) m (h .first) (omega (arith, rw r at few))),

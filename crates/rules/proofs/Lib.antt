@@ -11,13 +11,16 @@ pub mod Words
 pub mod Heads
 pub mod Lists
 pub mod Relink
--- soundness as a walk reads it, and the order of the holes
+-- what is left between two addresses; soundness as a walk reads it, and the order of the holes
+pub mod Gaps
 pub mod Walk
+pub mod Floors
 pub mod Rises
+-- what adds up over the holes
+pub mod Sums
 -- the used hole
 pub mod Used
--- the freed span: what it joins, where it goes, what stands against it
-pub mod Joins
+-- the freed span: where it goes and what it joins, what stands against it
 pub mod Freed
 pub mod Clear
 -- the order of the tests, and what each call comes to behind them
@@ -41,6 +44,7 @@ pub mod Suits
 pub mod Good
 pub mod Lowest
 -- the other calls
+pub mod Cover
 pub mod Vacancy
 pub mod FreeWords
 pub mod OpenWords
@@ -57,7 +61,6 @@ pub mod Statements
 -- demand 3: runs
 pub mod RunLaws
 -- demand 3: held blocks
-pub mod Cover
 pub mod Tiling
 pub mod HeldKept
 pub mod HeldRuns

@@ -10,12 +10,15 @@ use Rattle.rules.specs.declared.Addr.{Addr}
 use Rattle.rules.specs.declared.Place.{Place}
 use Rattle.rules.specs.declared.Head.{Head}
 use Rattle.rules.specs.declared.Hole.{Hole}
+use Rattle.rules.specs.declared.Heap.{Heap}
 use Rattle.rules.specs.Fixed.{minSize}
 use Rattle.rules.specs.Kinds.{addrOf, placeOf, place, none}
 use Rattle.rules.specs.Holes.{hole, headAt, putHead, holesFrom, firstOf, putHeads}
+use Rattle.rules.specs.Sound.{most, holes}
 use Rattle.rules.proofs.Cases.{by-eq, by-le}
 use Rattle.rules.proofs.Words.{Bytes, Agree}
 use Rattle.rules.proofs.Heads.{putHead-length, putHead-below, putHead-above, putHead-bytes, head-agree, head-back}
+use Rattle.rules.proofs.Walk.{Fair}
 use Rattle.rules.proofs.Rises.{Rises, rises-le}
 
 -- ---- head by head
@@ -31,7 +34,7 @@ unfolding holesFrom
 from-step n base m p h = rw (ne-eqb (p .0) (none .0) h, holesFrom)
 
 -- no place, or a place
-by-none {ℓ} : {X : Type ℓ} (p : Place) → (p ≡ none → X) → ((p .0 ≡ none .0 → ⊥) → X) → X
+pub by-none {ℓ} : {X : Type ℓ} (p : Place) → (p ≡ none → X) → ((p .0 ≡ none .0 → ⊥) → X) → X
 by-none p f g = by-eq (p .0) (none .0) (λ e. f (ap place e)) g
 
 -- there and back through the base
@@ -47,6 +50,11 @@ first-from n base m p =
     by-none p
     (λ e. rw (e, from-none (suc n) base m))
     (λ e. rw (from-step n base m p e) (place-back base p))
+
+-- the holes of a heap that is opened
+pub holes-read : (h : Heap) (m : List ℕ) → Fair h → holes h m ≡ holesFrom (suc (most h)) (h .base) m (h .first)
+unfolding holes
+holes-read h m f = rw (ne-eqb (h .bottom .0) 0 (λ z. omega arith))
 
 -- ---- heads that stand in memory
 
@@ -69,11 +77,6 @@ abbrev pub Holds : Addr → List ℕ → List Hole → Place → Type 0
 Holds base m [] q = Unit {0}
 Holds base m (k ∷ ks) q =
     (headAt m (placeOf base (k .addr)) ≡ record { size = k .size; next = firstOr base ks q }) × Holds base m ks q
-
-pub holds-append : (base : Addr) (m : List ℕ) (xs ys : List Hole) (q : Place)
-    → Holds base m xs (firstOr base ys q) → Holds base m ys q → Holds base m (xs ++ ys) q
-holds-append base m [] ys q s t = t
-holds-append base m (k ∷ xs) ys q s t = (rw (first-append base xs ys q) (s .0), holds-append base m xs ys q (s .1) t)
 
 pub holds-split : (base : Addr) (m : List ℕ) (xs ys : List Hole) (q : Place)
     → Holds base m (xs ++ ys) q → Holds base m xs (firstOr base ys q) × Holds base m ys q
@@ -100,7 +103,7 @@ holds-from (suc n) base m p l = (
 )
 
 -- and heads that stand are read, where the bounds keep each place apart from no place
-pub from-holds : (n : ℕ) (base : Addr) (lo hi : ℕ) (m : List ℕ) (ks : List Hole)
+from-holds : (n : ℕ) (base : Addr) (lo hi : ℕ) (m : List ℕ) (ks : List Hole)
     → base .0 ≤ lo → hi < 2 ^ 64 - 1 → Rises lo hi ks → length ks ≤ n → Holds base m ks none
     → holesFrom n base m (firstOf base ks) ≡ ks
 unfolding firstOf
@@ -230,7 +233,7 @@ first-lt base lo hi [] q r u l = l
 first-lt base lo hi (k ∷ ks) q r u l = omega (arith, rises-le (k .addr .0 + k .size) hi ks (r .2))
 
 -- the heads that were written stand there
-pub put-holds : (base : Addr) (lo hi : ℕ) (m : List ℕ) (ks : List Hole) (q : Place)
+put-holds : (base : Addr) (lo hi : ℕ) (m : List ℕ) (ks : List Hole) (q : Place)
     → base .0 ≤ lo → hi ≤ base .0 + length m → hi < 2 ^ 64 → q .0 < 2 ^ 64 → Rises lo hi ks
     → Holds base (putHeadsTo base ks q m) ks q
 unfolding putHeadsTo

@@ -23,7 +23,7 @@ use Rattle.rules.proofs.Suits.{Placed, by-found, nothing-room, room-not
 use Rattle.rules.proofs.Good.{good-outcome, good-rises, good-count, valid-passes, renewed-becomes}
 
 -- the first suiting hole is used, or none is found
-pub allocate-outcome : (h : Heap) (m : List ℕ) (s align r : ℕ) → Good ours h m → Valid s align r
+allocate-outcome : (h : Heap) (m : List ℕ) (s align r : ℕ) → Good ours h m → Valid s align r
     → outcome (allocate s align) h m ≡ taken r align h (holes h m) (find r align (holes h m))
 unfolding unless accepted
 allocate-outcome h m s align r g v =

@@ -2,7 +2,7 @@
 -- `upTo` compute them. Assumes nothing.
 use mathlib.Core.Path.{_≡_, ap, _∙_}
 use Prim.Native.Nat.{ℕ, _+_, _-_, _*_, _/_, _%_, _≤_, _<_}
-use native.Mathlib.Omega.{arith}
+use native.Mathlib.Omega.{arith, by-contra}
 use native.Mathlib.Nat.{div-add-mod', mod-lt, mul-mod-left, mul-le-mul-right, suc-mul, dvd-trans, dvd-of-mod-eq-zero, mod-eq-zero-of-dvd}
 use Rattle.rules.specs.Round.{Below, Above, downTo, upTo}
 use Rattle.rules.proofs.Cases.{by-le}
@@ -35,14 +35,14 @@ down-is a x pos =
       multiple = m;
       below = omega arith;
       greatest =
-          λ y ey h. by-le y (downTo a x) (λ k. k) (λ k. absurd (omega (arith, multiples-apart a (downTo a x) y m ey k)));
+          λ y ey h. by-contra y (downTo a x) (λ k. omega (arith, multiples-apart a (downTo a x) y m ey k));
     }
 
 -- x less its remainder, by whatever way that is found
 pub down-by : {a m : ℕ} (x : ℕ) → 0 < a → m ≡ x % a → Below a x (x - m)
 down-by {a} x pos e = rw e (down-is a x pos)
 
-pub below-one : {a x r s : ℕ} → Below a x r → Below a x s → r ≡ s
+below-one : {a x r s : ℕ} → Below a x r → Below a x s → r ≡ s
 below-one {a} {x} {r} {s} p q =
     let lo : r ≤ s = q .greatest r (p .multiple) (p .below) in
     let hi : s ≤ r = p .greatest s (q .multiple) (q .below) in
@@ -65,10 +65,10 @@ up-is a x pos =
       multiple = b .multiple;
       above = omega arith;
       least =
-          λ y ey h. by-le (upTo a x) y (λ k. k) (λ k. absurd (omega (arith, multiples-apart a y (upTo a x) ey (b .multiple) k)));
+          λ y ey h. by-contra (upTo a x) y (λ k. omega (arith, multiples-apart a y (upTo a x) ey (b .multiple) k));
     }
 
-pub above-one : {a x r s : ℕ} → Above a x r → Above a x s → r ≡ s
+above-one : {a x r s : ℕ} → Above a x r → Above a x s → r ≡ s
 above-one {a} {x} {r} {s} p q =
     let lo : s ≤ r = q .least r (p .multiple) (p .above) in
     let hi : r ≤ s = p .least s (q .multiple) (q .above) in

@@ -1,8 +1,7 @@
 -- Which addresses are free fixes the holes: two sound lists with the same vacant addresses are one list, and in a list an address lies in
 -- one hole. Assumes nothing.
 use mathlib.Core.Path.{_≡_, refl, sym, ap, subst, _∙_}
-use mathlib.Core.List.{List, [], _∷_, _++_, List·Memᴰ, List·Memᴰ·head, List·Memᴰ·tail, Memᴰ·append-right}
-use mathlib.Core.Logic.{⊎-elim}
+use mathlib.Core.List.{List, [], _∷_, _++_, List·Memᴰ, List·Memᴰ·head, List·Memᴰ·tail, List·Memᴰ·not-nil, Memᴰ·append-right}
 use Prim.Native.Nat.{ℕ, _+_, _≤_, _<_}
 use native.Mathlib.Omega.{arith}
 use Rattle.rules.specs.declared.Hole.{Hole}
@@ -10,9 +9,13 @@ use Rattle.rules.specs.declared.Heap.{Heap}
 use Rattle.rules.specs.Kinds.{addr}
 use Rattle.rules.specs.Holes.{hole}
 use Rattle.rules.specs.InWords.{endOf, SoundHoles, Vacant}
-use Rattle.rules.proofs.Cases.{by-le}
+use Rattle.rules.proofs.Cases.{by-le, some-first, some-later, some-cases}
 use Rattle.rules.proofs.SoundWords.{Apart}
-use Rattle.rules.proofs.Vacancy.{Inside, vacant-none, vacant-first, vacant-later, vacant-cases}
+use Rattle.rules.proofs.Cover.{Inside}
+
+-- what holds the address y
+abbrev At : ℕ → Hole → Type 0
+At y k = Inside k y
 
 -- ---- holes with bytes between
 
@@ -37,9 +40,9 @@ sound-spaced : (h : Heap) (ks : List Hole) → SoundHoles h ks → Spaced 0 ks
 sound-spaced h ks s = apart-spaced 0 ks (λ k back e. omega arith) (λ k m. s .each k m .sixteen) (s .rise)
 
 vacant-from : (lo : ℕ) (ks : List Hole) (y : ℕ) → Spaced lo ks → Vacant ks y → lo ≤ y
-vacant-from lo [] y s v = absurd (vacant-none v)
+vacant-from lo [] y s v = absurd (List·Memᴰ·not-nil (v .1))
 vacant-from lo (k ∷ ks) y s v =
-    ⊎-elim (λ w. omega arith) (λ u. omega (arith, vacant-from (endOf k + 1) ks y (s .2) u)) (vacant-cases k ks y v)
+    some-cases (At y) v (λ w. omega arith) (λ u. omega (arith, vacant-from (endOf k + 1) ks y (s .2) u))
 
 -- ---- two lists with the same vacant addresses
 
@@ -52,7 +55,7 @@ module _ (lo : ℕ) (k l : Hole) (ks ls : List Hole) (s : Spaced lo (k ∷ ks)) 
   starts : l .addr .0 ≤ k .addr .0
   starts =
       vacant-from (l .addr .0) (l ∷ ls) (k .addr .0) (omega arith, t .1, t .2)
-      (c (k .addr .0) (vacant-first k ks (k .addr .0) (omega arith)))
+      (c (k .addr .0) (some-first (At (k .addr .0)) (omega arith)))
 
   -- and if both start together it ends no earlier
   ends : k .addr .0 ≡ l .addr .0 → endOf k ≤ endOf l
@@ -60,23 +63,21 @@ module _ (lo : ℕ) (k l : Hole) (ks ls : List Hole) (s : Spaced lo (k ∷ ks)) 
       by-le (endOf k) (endOf l) (λ n. n)
       (λ n.
       let y = endOf l in
-      ⊎-elim
+      some-cases (At y) (c y (some-first (At y) (omega arith)))
       (λ w. absurd (omega arith))
-      (λ v. absurd (omega (arith, vacant-from (endOf l + 1) ls y (t .2) v)))
-      (vacant-cases l ls y (c y (vacant-first k ks y (omega arith)))))
+      (λ v. absurd (omega (arith, vacant-from (endOf l + 1) ls y (t .2) v))))
 
   -- and if both end together the rest covers the rest
   rests : endOf k ≡ endOf l → Covers ls ks
   rests e y v =
-      ⊎-elim
+      some-cases (At y) (c y (some-later (At y) v))
       (λ w. absurd (omega (arith, vacant-from (endOf k + 1) ks y (s .2) v)))
       (λ u. u)
-      (vacant-cases l ls y (c y (vacant-later k ks y v)))
 
 spaced-one : (lo : ℕ) (ks ls : List Hole) → Spaced lo ks → Spaced lo ls → Covers ls ks → Covers ks ls → ks ≡ ls
 spaced-one lo [] [] s t c d = refl
-spaced-one lo [] (l ∷ ls) s t c d = absurd (vacant-none (d (l .addr .0) (vacant-first l ls (l .addr .0) (omega arith))))
-spaced-one lo (k ∷ ks) [] s t c d = absurd (vacant-none (c (k .addr .0) (vacant-first k ks (k .addr .0) (omega arith))))
+spaced-one lo [] (l ∷ ls) s t c d = absurd (List·Memᴰ·not-nil (d (l .addr .0) (some-first (At (l .addr .0)) (omega arith)) .1))
+spaced-one lo (k ∷ ks) [] s t c d = absurd (List·Memᴰ·not-nil (c (k .addr .0) (some-first (At (k .addr .0)) (omega arith)) .1))
 spaced-one lo (k ∷ ks) (l ∷ ls) s t c d =
     let a : k .addr .0 ≡ l .addr .0 = omega (arith, starts lo k l ks ls s t c, starts lo l k ls ks t s d) in
     let e : endOf k ≡ endOf l = omega (arith, ends lo k l ks ls s t c a, ends lo l k ls ks t s d (sym a)) in

@@ -19,17 +19,18 @@ use Rattle.rules.specs.Refusals.{refusal1, tests, unless}
 use Rattle.rules.specs.Outcome.{decided, outcome}
 use Rattle.rules.specs.Behaviour.{ours}
 use Rattle.rules.specs.Statements.{OpenDoes}
-use Rattle.rules.proofs.Cases.{cases, both, any-each, each-all}
+use Rattle.rules.proofs.Cases.{both, any-each, each-all}
 use Rattle.rules.proofs.Walk.{Fair}
-use Rattle.rules.proofs.SoundWords.{left-is, words-gap}
-use Rattle.rules.proofs.TestWords.{no-start}
+use Rattle.rules.proofs.SoundWords.{left-is}
+use Rattle.rules.proofs.Gaps.{words-gap}
+use Rattle.rules.proofs.TestWords.{means-fails, no-start}
 
 pub open-does : OpenDoes ours
 unfolding outcome decided tests unless accepted opened firstOf
 open-does h m base named bottom s e n l =
     let is = left-is l in
     let pass : any (refusal1 (length m) (addr base) named) ≡ false =
-    cases (any (refusal1 (length m) (addr base) named)) (λ t. absurd (n (no-start (length m) (addr base) named .0 t))) (λ t. t) in
+    means-fails (no-start (length m) (addr base) named) n in
     let rest : left (addr base) named % grain ≡ named - (upTo grain base - base) - downTo grain (left (addr base) named) = omega arith in
     rw (eq-eqb (h .bottom .0) 0 e, pass, is .0, is .1, ← rest)
 

@@ -65,7 +65,7 @@ pub data Move : Type 0 where
   elsewhere : Call → Rows → ℕ → Move
   read : Reader → Move
 
-abbrev pub askOf : ℕ → Move → Ask
+abbrev askOf : ℕ → Move → Ask
 askOf len (here c r) = calls c r len
 askOf len (elsewhere c r n) = calls c r n
 askOf len (read x) = reads x

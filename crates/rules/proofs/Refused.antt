@@ -19,15 +19,17 @@ use Rattle.rules.specs.Holes.{hole}
 use Rattle.rules.specs.Sound.{sound, holes}
 use Rattle.rules.specs.Allocate.{rounded, candidate, Found, nothing, found, find}
 use Rattle.rules.specs.Calls.{opening, allocate, free, extend, list, room, Outcome, refused, told, done, taken, given, gathered, grown, extended, accepted}
-use Rattle.rules.specs.Refusals.{onePower, refusal6, refusal8, refusal9, Test, test, openedTests, tests, unless}
+use Rattle.rules.specs.Refusals.{refusal6, refusal8, refusal9, Test, test, openedTests, tests, unless}
 use Rattle.rules.specs.Outcome.{decided, outcome}
 use Rattle.rules.specs.InWords.{Rounds, RoomAt, NoLayout, NoSpan}
 use Rattle.rules.specs.Behaviour.{ours}
 use Rattle.rules.specs.Statements.{Row, Decides, refusalsOf, RefusalsExactly}
-use Rattle.rules.proofs.Cases.{cases, by-test, or-left, any-each}
+use Rattle.rules.proofs.Cases.{cases, by-test, or-left}
+use Rattle.rules.proofs.Layouts.{layout-passed}
 use Rattle.rules.proofs.SoundWords.{rounded-rounds, rounds-rounded, sound-words, sound-means}
-use Rattle.rules.proofs.TestWords.{Means, means-eq, means-lt, means-not, means-last, means-rounds, means-power, no-start, no-layout, no-span}
+use Rattle.rules.proofs.TestWords.{Means, means-eq, means-lt, means-not, means-last, means-rounds, no-start, no-layout, no-span}
 use Rattle.rules.proofs.Suits.{nothing-room, found-room}
+use Rattle.rules.proofs.Passes.{Passes}
 
 -- ---- rows of words against lists of tests
 
@@ -41,12 +43,8 @@ Meets [] (q ∷ qs) = ⊥
 Meets (t ∷ ts) [] = ⊥
 Meets (t ∷ ts) (q ∷ qs) = (q .gives ≡ t .gives) × Means (any (q .«exactly-if»)) (t .«exactly-if») × Meets ts qs
 
-abbrev Passed : List Test → Type 0
-Passed [] = Unit {0}
-Passed (q ∷ qs) = (any (q .«exactly-if») ≡ false) × Passed qs
-
 -- rows that meet the tests decide, and the rows behind them once the tests are passed
-decides : (ts us : List Row) (qs : List Test) (o : Outcome) → Meets ts qs → (Passed qs → Decides us o) → Decides (ts ++ us) (unless qs o)
+decides : (ts us : List Row) (qs : List Test) (o : Outcome) → Meets ts qs → (Passes qs → Decides us o) → Decides (ts ++ us) (unless qs o)
 unfolding unless
 decides [] us [] o m f = f tt
 decides [] us (q ∷ qs) o m f = absurd m
@@ -77,7 +75,7 @@ extended-passes by h ks =
 module _ (h : Heap) (m : List ℕ) where
   -- 3, 4 and 5, then the others on a sound heap
   opened-decides : (ts us : List Row) (qs : List Test) (o : Outcome) → Meets ts qs
-      → (sound h (holes h m) ≡ true → Passed qs → Decides us o)
+      → (sound h (holes h m) ≡ true → Passes qs → Decides us o)
       → Decides (refusalsOf ours list h m ++ (ts ++ us)) (unless (openedTests (length m) h (holes h m) ++ qs) o)
   unfolding unless
   opened-decides ts us qs o n f =
@@ -124,7 +122,7 @@ refusals-exactly (allocate s align) h m f =
     (test BadLayout (refusal6 s align) ∷ []) _ (refl, no-layout s align (f .1), tt)
     (λ e p.
     room-decides h m s align (find (rounded s) align (holes h m))
-    (means-power align (f .1) .0 (not-false (onePower align) (any-each (refusal6 s align) (p .0) .0))) e refl)
+    (layout-passed s align (f .1) (p .0) .power) e refl)
 refusals-exactly (free x s align) h m f =
     opened-decides h m
     (row BadLayout (NoLayout s align) ∷ row BadSpan ((r : ℕ) × Rounds s r × NoSpan h (holes h m) (x .0) r align) ∷ []) []

@@ -4,14 +4,14 @@ use mathlib.Core.Path.{_≡_, refl, sym, _∙_}
 use mathlib.Core.List.{List, [], _∷_, _++_}
 use Prim.Native.Nat.{ℕ, _+_, _≤_, _<_}
 use native.Mathlib.Omega.{arith}
-use lib.ListN.{length, getD}
+use lib.ListN.{getD}
 use Rattle.rules.specs.declared.Addr.{Addr}
 use Rattle.rules.specs.declared.Place.{Place}
 use Rattle.rules.specs.declared.Hole.{Hole}
 use Rattle.rules.specs.Kinds.{placeOf, none}
 use Rattle.rules.specs.Holes.{headAt, putHead, firstOf, putHeads}
 use Rattle.rules.proofs.Words.{Bytes}
-use Rattle.rules.proofs.Heads.{putHead-length, putHead-below, putHead-bytes, head-agree, head-same}
+use Rattle.rules.proofs.Heads.{putHead-below, putHead-bytes, head-agree, head-same}
 use Rattle.rules.proofs.Rises.{Rises, rises-le, endOr, rises-front, rises-back}
 use Rattle.rules.proofs.Lists.{
   firstOr,
@@ -59,26 +59,13 @@ link base [] q m = m
 link base (k ∷ []) q m = putHead m (placeOf base (k .addr)) (record { size = k .size; next = q })
 link base (k ∷ j ∷ js) q m = link base (j ∷ js) q m
 
-pub link-last : (base : Addr) (ks : List Hole) (k : Hole) (q : Place) (m : List ℕ)
-    → link base (ks ++ (k ∷ [])) q m ≡ putHead m (placeOf base (k .addr)) (record { size = k .size; next = q })
-unfolding link
-link-last base [] k q m = refl
-link-last base (i ∷ []) k q m = refl
-link-last base (i ∷ j ∷ js) k q m = link-last base (j ∷ js) k q m
-
-pub link-length : (base : Addr) (ks : List Hole) (q : Place) (m : List ℕ) → length (link base ks q m) ≡ length m
-unfolding link
-link-length base [] q m = refl
-link-length base (k ∷ []) q m = putHead-length m (placeOf base (k .addr)) (record { size = k .size; next = q })
-link-length base (k ∷ j ∷ js) q m = link-length base (j ∷ js) q m
-
-pub link-bytes : (base : Addr) (ks : List Hole) (q : Place) (m : List ℕ) → Bytes m → Bytes (link base ks q m)
+link-bytes : (base : Addr) (ks : List Hole) (q : Place) (m : List ℕ) → Bytes m → Bytes (link base ks q m)
 unfolding link
 link-bytes base [] q m s = s
 link-bytes base (k ∷ []) q m s = putHead-bytes m (placeOf base (k .addr)) (record { size = k .size; next = q }) s
 link-bytes base (k ∷ j ∷ js) q m s = link-bytes base (j ∷ js) q m s
 
-pub link-same : (base : Addr) (ks : List Hole) (q : Place) (m : List ℕ) → Bytes m → Holds base m ks q → link base ks q m ≡ m
+link-same : (base : Addr) (ks : List Hole) (q : Place) (m : List ℕ) → Bytes m → Holds base m ks q → link base ks q m ≡ m
 unfolding link
 link-same base [] q m s t = refl
 link-same base (k ∷ []) q m s t = again base m k q s (t .0)
@@ -94,7 +81,7 @@ link-below base lo hi (k ∷ j ∷ js) q m i a r l =
     link-below base (k .addr .0 + k .size) hi (j ∷ js) q m i (omega arith) (r .2) (omega arith)
 
 -- the heads of a list that stands, with a new end: only the last is written
-pub put-link : (base : Addr) (lo hi : ℕ) (ks : List Hole) (p q : Place) (m : List ℕ) → Bytes m → base .0 ≤ lo → Rises lo hi ks
+put-link : (base : Addr) (lo hi : ℕ) (ks : List Hole) (p q : Place) (m : List ℕ) → Bytes m → base .0 ≤ lo → Rises lo hi ks
     → Holds base m ks p → putHeadsTo base ks q m ≡ link base ks q m
 unfolding putHeadsTo link
 put-link base lo hi [] p q m s a r t = refl

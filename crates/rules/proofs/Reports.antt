@@ -1,11 +1,11 @@
 -- What room and list report of a good heap: the largest hole and how many there are, and the holes in the lent rows. Assumes nothing.
 use mathlib.Core.Path.{_≡_, refl, ap, _∙_}
-use mathlib.Core.List.{List, [], _∷_, _++_, map, List·Memᴰ, List·Memᴰ·head, List·Memᴰ·tail, List·Memᴰ·not-nil, List·Memᴰ·cases-cons}
+use mathlib.Core.List.{List, [], _∷_, _++_, map, map-append, List·Memᴰ, List·Memᴰ·head, List·Memᴰ·tail, List·Memᴰ·not-nil, List·Memᴰ·cases-cons}
 use mathlib.Core.Logic.{⊎-elim}
 use Prim.Native.Nat.{ℕ, zero, suc, _+_, _≤_, _<_, min}
 use native.Mathlib.Omega.{arith}
 use lib.ListN.{length, getD, take, length-take, length-map, length-append}
-use lib.Seq.{getD-take}
+use lib.Seq.{getD-take, getD-at}
 use Rattle.rules.specs.declared.Hole.{Hole}
 use Rattle.rules.specs.Holes.{largest}
 use Rattle.rules.specs.Sound.{holes}
@@ -76,8 +76,8 @@ over-out (x ∷ xs) (y ∷ ys) (suc i) l = over-out xs ys i (omega arith)
 module _ (f : Hole → ℕ) where
   -- one of the holes, by how many stand before it
   at-hole : (front back : List Hole) (k : Hole) → getD (map f (front ++ (k ∷ back))) (length front) 0 ≡ f k
-  at-hole [] back k = refl
-  at-hole (j ∷ front) back k = at-hole front back k
+  at-hole front back k =
+      rw (map-append f front (k ∷ back)) (getD-at (map f front) (f k) (map f back) 0 (length front) (length-map front f))
 
   module _ (ks : List Hole) (n : ℕ) (row : List ℕ) where
     abbrev listed : List ℕ

@@ -1,19 +1,15 @@
 -- Holes that rise from one address to another, as those of a sound heap do. Assumes nothing.
-use mathlib.Core.Path.{_≡_, sym, _∙_}
+use mathlib.Core.Path.{_≡_}
 use mathlib.Core.Bool.{true}
 use mathlib.Core.List.{List, [], _∷_, _++_}
 use Prim.Native.Nat.{ℕ, _+_, _≤_}
 use native.Mathlib.Omega.{arith}
-use borrow.Author.Tests.{leb-true, eqb-true}
 use Rattle.rules.specs.declared.Addr.{Addr}
 use Rattle.rules.specs.declared.Hole.{Hole}
 use Rattle.rules.specs.declared.Heap.{Heap}
 use Rattle.rules.specs.Fixed.{minSize}
-use Rattle.rules.specs.Tests.{all}
-use Rattle.rules.specs.Kinds.{plus, same, notAfter}
 use Rattle.rules.specs.Sound.{soundHoles}
-use Rattle.rules.proofs.Cases.{cases, and-left, and-right, last, all-each}
-use Rattle.rules.proofs.Walk.{Fair, headRules, behind, ends, walks, floorOf, floor-low, sound-walks}
+use Rattle.rules.proofs.Walk.{Fair, behind, walks, floorOf, walks-head, walks-tail, floor-low, sound-walk}
 
 -- the holes rise from lo to hi, each with room for its head, none overlapping the next
 abbrev pub Rises : ℕ → ℕ → List Hole → Type 0
@@ -56,32 +52,16 @@ rises-append lo mid hi (k ∷ xs) ys r s = (r .0, r .1, rises-append (k .addr .0
 -- ---- the holes of a sound heap
 
 -- a walk goes through holes that rise, and the last of them ends at top or before it
-pub walks-rises : (h : Heap) (floor : Addr) (k : Hole) (ks : List Hole) → walks h floor (k ∷ ks) ≡ true
+walks-rises : (h : Heap) (floor : Addr) (k : Hole) (ks : List Hole) → walks h floor (k ∷ ks) ≡ true
     → Rises (floor .0) (h .top .0) (k ∷ ks)
-unfolding walks
-walks-rises h floor k [] e =
-    let q = all-each (headRules h floor k) (and-left (all (headRules h floor k)) (ends h (behind k)) e) in
-    omega (arith, leb-true)
+walks-rises h floor k [] e = omega (arith, walks-head h floor k [] e)
 walks-rises h floor k (j ∷ js) e =
-    let q = all-each (headRules h floor k) (and-left (all (headRules h floor k)) (walks h (behind k) (j ∷ js)) e) in
-    let r = walks-rises h (behind k) j js (and-right (all (headRules h floor k)) (walks h (behind k) (j ∷ js)) e) in
-    (omega (arith, leb-true), omega (arith, leb-true), (omega arith, r .1, r .2))
-
--- with no hole the floor alone is bounded: it may lie 16 bytes behind top
-pub walks-rises-behind : (h : Heap) (floor : Addr) (ks : List Hole) → walks h floor ks ≡ true
-    → Rises (floor .0) (h .top .0 + minSize) ks
-unfolding walks ends
-walks-rises-behind h floor [] e =
-    cases (notAfter floor (h .top))
-    (λ q. omega (arith, leb-true (floor .0) (h .top .0) q))
-    (λ q. omega (arith, eqb-true (floor .0) (h .top .0 + minSize) (last (same floor (plus (h .top) minSize)) (rw q at e))))
-walks-rises-behind h floor (k ∷ ks) e =
-    rises-widen (floor .0) (floor .0) (h .top .0) (h .top .0 + minSize) (k ∷ ks) (omega arith) (omega arith)
-    (walks-rises h floor k ks e)
+    let q = walks-head h floor k (j ∷ js) e in
+    let r = walks-rises h (behind k) j js (walks-tail h floor k (j ∷ js) e) in
+    (q .above, q .least, (omega arith, r .1, r .2))
 
 pub sound-rises : (h : Heap) → Fair h → (ks : List Hole) → soundHoles h ks ≡ true → Rises (h .bottom .0) (h .top .0) ks
 sound-rises h f [] e = omega arith
 sound-rises h f (k ∷ ks) e =
-    let w = and-left (walks h (floorOf h (k ∷ ks)) (k ∷ ks)) _ (sym (sound-walks h f (k ∷ ks)) ∙ e) in
     rises-widen (h .bottom .0) (floorOf h (k ∷ ks) .0) (h .top .0) (h .top .0) (k ∷ ks) (floor-low h (k ∷ ks)) (omega arith)
-    (walks-rises h (floorOf h (k ∷ ks)) k ks w)
+    (walks-rises h (floorOf h (k ∷ ks)) k ks (sound-walk h f (k ∷ ks) e))

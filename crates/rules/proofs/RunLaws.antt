@@ -26,12 +26,11 @@ use Rattle.rules.specs.Refusals.{Test, openedTests, tests, unless}
 use Rattle.rules.specs.Outcome.{decided, outcome, leaves, after, Rows, rowsAfter}
 use Rattle.rules.specs.InWords.{Sound}
 use Rattle.rules.specs.Runs.{Fits, Reader, reading, Ask, calls, reads, AllFit, Told, answers, says, Kept, Run, end, own, other, asked, Box, start, comesTo, boxAfter, answerOf, nextBox, tellBox, tells, ends}
-use Rattle.rules.specs.Demands.{FollowsFromCalls, SideBySide, NeverUnsound}
+use Rattle.rules.specs.Statements.{FollowsFromCalls, SideBySide, NeverUnsound}
 use Rattle.rules.proofs.Cases.{cases, apart, by-test, or-left}
 use Rattle.rules.proofs.Lists.{SameHeads, frame}
 use Rattle.rules.proofs.Decide.{unless-4, rest, Opens}
-use Rattle.rules.proofs.Walk.{fair-sound}
-use Rattle.rules.proofs.SoundWords.{numbers-words, holes-words, words-sound}
+use Rattle.rules.proofs.SoundWords.{fair-words, words-sound}
 use Rattle.rules.proofs.SoundKept.{Keeps, decided-keeps, outcome-keeps}
 use Rattle.rules.proofs.MemoryWords.{stands-read}
 
@@ -82,11 +81,11 @@ same-told c r n b h w e = rw (e, leaves-answer h w (comesTo c n b))
 
 -- a call on the box's own arena
 module _ (c : Call) (n : ℕ) (b : Box) (h : Heap) (m w : List ℕ) (f : Follows b h m) (k : Kept h m w) (e : length w ≡ n) where
-  pub own-outcome : outcome c h w ≡ comesTo c n b
+  own-outcome : outcome c h w ≡ comesTo c n b
   unfolding outcome
   own-outcome = let p = f .heap in let q = kept-holes h m w k ∙ f .holes in cc
 
-  pub own-follows : (r : Rows) → Fits c → Follows (nextBox (calls c r n) b) (after c h w .heap) (after c h w .arena)
+  own-follows : (r : Rows) → Fits c → Follows (nextBox (calls c r n) b) (after c h w .heap) (after c h w .arena)
   unfolding after nextBox
   own-follows r fit =
       let before : Follows b h w = record { heap = f .heap; holes = kept-holes h m w k ∙ f .holes } in
@@ -117,10 +116,10 @@ module _
     here : comesTo c n b ≡ refused (elsewhere c)
     here = rw (← f .heap) (decided-elsewhere c n h (b .holes) o d)
 
-    pub other-outcome : outcome c h w ≡ comesTo c n b
+    other-outcome : outcome c h w ≡ comesTo c n b
     other-outcome = there ∙ sym here
 
-    pub other-follows : (r : Rows) → Follows (nextBox (calls c r n) b) (after c h w .heap) m
+    other-follows : (r : Rows) → Follows (nextBox (calls c r n) b) (after c h w .heap) m
     unfolding after leaves nextBox boxAfter
     other-follows r = rw (there, here) f
 
@@ -130,13 +129,13 @@ module _ (x : Reader) (b : Box) (h : Heap) (m : List ℕ) (f : Follows b h m) wh
   unfolding tellBox
   asked-told = rw (f .heap)
 
-  pub asked-follows : Follows (nextBox (reads x) b) h m
+  asked-follows : Follows (nextBox (reads x) b) h m
   unfolding nextBox
   asked-follows = f
 
 -- ---- a run
 
-pub run-follows : {asks : List Ask} {h : Heap} {m : List ℕ} {ts : List Told} {h′ : Heap} {m′ : List ℕ} (b : Box)
+run-follows : {asks : List Ask} {h : Heap} {m : List ℕ} {ts : List Told} {h′ : Heap} {m′ : List ℕ} (b : Box)
     → Follows b h m → AllFit asks → Run asks h m ts h′ m′ → (ts ≡ tells asks b) × Follows (ends asks b) h′ m′
 unfolding tells ends
 run-follows b f fit end = (refl, f)
@@ -153,7 +152,7 @@ run-follows b f fit (asked {x = x} {h = h} {m = m} run) =
     (rw (asked-told x b h m f, ih .0), ih .1)
 
 -- before the opening every memory will do
-pub fresh : (m : List ℕ) → Follows start unopened m
+fresh : (m : List ℕ) → Follows start unopened m
 unfolding holes
 fresh m = record { heap = refl; holes = refl }
 
@@ -170,21 +169,20 @@ side-by-side asks m₁ m₂ ts₁ ts₂ h₁ h₂ m₁′ m₂′ fit run₁ run
 
 -- ---- the box of the calls alone: unopened as at the start, or sound
 
-abbrev pub Whole : Box → Type 0
+abbrev Whole : Box → Type 0
 Whole b = (b ≡ start) ⊎ Sound (b .heap) (b .holes)
 
 after-whole : (c : Call) (n : ℕ) (b : Box) (o : Outcome) → Whole b → Keeps n o → Whole (boxAfter c b o)
 unfolding boxAfter
 after-whole c n b (refused r) v k = v
 after-whole c n b (told a ks) v k = v
-after-whole c n b (done a h ks) v k =
-    inr (numbers-words h (fair-sound h (k .0 .fair)), holes-words h ks (k .0 .sound))
+after-whole c n b (done a h ks) v k = inr (fair-words h ks (k .0 .fair) (k .0 .sound))
 
-pub call-whole : (c : Call) (r : Rows) (n : ℕ) (b : Box) → Fits c → Whole b → Whole (nextBox (calls c r n) b)
+call-whole : (c : Call) (r : Rows) (n : ℕ) (b : Box) → Fits c → Whole b → Whole (nextBox (calls c r n) b)
 unfolding nextBox
 call-whole c r n b fit v = after-whole c n b (comesTo c n b) v (decided-keeps c n (b .heap) (b .holes) fit)
 
-pub ends-whole : (asks : List Ask) (b : Box) → AllFit asks → Whole b → Whole (ends asks b)
+ends-whole : (asks : List Ask) (b : Box) → AllFit asks → Whole b → Whole (ends asks b)
 unfolding ends nextBox
 ends-whole [] b fit v = v
 ends-whole (calls c r n ∷ asks) b fit v =
@@ -259,7 +257,7 @@ whole-sound : (b : Box) → Whole b → (b .heap .bottom .0 ≡ 0 → ⊥) → s
 whole-sound b (inl e) o = absurd (o (rw e))
 whole-sound b (inr s) o = words-sound (b .heap) (b .holes) s
 
-pub whole-spare : (b : Box) → Whole b → (c : Call) (n : ℕ) → comesTo c n b ≡ refused NotSound → ⊥
+whole-spare : (b : Box) → Whole b → (c : Call) (n : ℕ) → comesTo c n b ≡ refused NotSound → ⊥
 unfolding refusalNumbers
 whole-spare b v c n e =
     let p = rw e at (decided-spare n (b .heap) (b .holes) (whole-sound b v) c) in

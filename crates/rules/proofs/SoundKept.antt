@@ -4,14 +4,13 @@ use mathlib.Core.Bool.{true, false}
 use mathlib.Core.List.{List, _++_}
 use Prim.Native.Nat.{ℕ, _+_, _-_, _%_, _≤_}
 use native.Mathlib.Omega.{arith}
-use lib.Count.{onesIn}
 use lib.Dec.{ltb, eqb}
 use lib.ListN.{length}
 use borrow.Author.Tests.{ltb-true, ltb-false, eqb-true, not-false}
 use Rattle.rules.specs.declared.Addr.{Addr}
 use Rattle.rules.specs.declared.Hole.{Hole}
 use Rattle.rules.specs.declared.Heap.{Heap}
-use Rattle.rules.specs.Fixed.{minSize, grain, width}
+use Rattle.rules.specs.Fixed.{minSize, grain}
 use Rattle.rules.specs.Round.{Power, downTo}
 use Rattle.rules.specs.Tests.{any}
 use Rattle.rules.specs.Holes.{hole, firstOf}
@@ -19,20 +18,19 @@ use Rattle.rules.specs.Sound.{soundNumbers, soundHoles, sound, holes}
 use Rattle.rules.specs.Allocate.{rounded, Found, nothing, found, find, split}
 use Rattle.rules.specs.Free.{freed}
 use Rattle.rules.specs.Calls.{Call, opening, allocate, free, extend, list, room, Outcome, refused, told, done, opened, taken, given, grown, gathered, extended, accepted}
-use Rattle.rules.specs.Refusals.{refusal4, refusal5, refusal8, onePower, tests}
+use Rattle.rules.specs.Refusals.{refusal4, refusal5, refusal8, tests}
 use Rattle.rules.specs.Outcome.{decided, outcome}
 use Rattle.rules.specs.Runs.{Fits}
 use Rattle.rules.specs.Behaviour.{ours}
 use Rattle.rules.specs.Statements.{SoundKept}
 use Rattle.rules.proofs.Cases.{by-test, and-left, and-right, or-left}
-use Rattle.rules.proofs.Powers.{one-power}
-use Rattle.rules.proofs.Layouts.{rounded-multiple, rounded-least}
-use Rattle.rules.proofs.Walk.{Fair, sound-fair, fair-sound, sound-count}
-use Rattle.rules.proofs.SoundWords.{numbers-words, holes-words}
+use Rattle.rules.proofs.Layouts.{rounded-multiple, rounded-least, layout-passed}
+use Rattle.rules.proofs.Walk.{Fair, sound-fair, sound-count}
+use Rattle.rules.proofs.SoundWords.{fair-words}
 use Rattle.rules.proofs.AllocateKept.{allocate-kept}
 use Rattle.rules.proofs.FreeKept.{renewed-fair, free-sound, gather-fair, gather-sound, grow-fair, grow-sound}
 use Rattle.rules.proofs.OpenWords.{opened-fair, opened-sound}
-use Rattle.rules.proofs.Passes.{by-passes}
+use Rattle.rules.proofs.Passes.{Passes, by-decided}
 
 -- a sound heap, lent as many bytes as it was opened with
 pub record Stands (len : ℕ) (h : Heap) (ks : List Hole) : Type 0 where
@@ -115,37 +113,30 @@ module _ (len : ℕ) (h : Heap) (ks : List Hole) (st : Stands len h ks) where
     refl,
   )
 
-pub decided-keeps : (c : Call) (len : ℕ) (h : Heap) (ks : List Hole) → Fits c → Keeps len (decided c len h ks)
-unfolding decided tests accepted
-decided-keeps (opening base named) len h ks f =
-    by-passes (Keeps len) (tests (opening base named) len h ks) _ (λ r. tt)
-    (λ p. (
-      record {
-        fair = opened-fair len base named (p .1 .0);
-        sound = opened-sound len base named (p .1 .0);
-        arena = unfold opened in refl;
-      },
-      unfold opened in refl,
-    ))
-decided-keeps (allocate s align) len h ks f =
-    by-passes (Keeps len) (tests (allocate s align) len h ks) _ (λ r. tt)
-    (λ p.
-    let st = passed-stands len h ks (p .1 .0) (p .1 .1 .0) in
-    let one = eqb-true (onesIn width align) 1 (not-false (onePower align) (or-left _ _ (p .1 .1 .1 .0))) in
-    taken-keeps len h ks st (rounded s) align (find (rounded s) align ks) (one-power width align (f .1) one) (rounded-multiple s)
-    (rounded-least s) refl)
-decided-keeps (free x s align) len h ks f =
-    by-passes (Keeps len) (tests (free x s align) len h ks) _ (λ r. tt)
-    (λ p.
+accepted-keeps : (c : Call) (len : ℕ) (h : Heap) (ks : List Hole) → Fits c → Passes (tests c len h ks) → Keeps len (accepted c len h ks)
+unfolding tests accepted
+accepted-keeps (opening base named) len h ks f p = (
+  record {
+    fair = opened-fair len base named (p .1 .0);
+    sound = opened-sound len base named (p .1 .0);
+    arena = unfold opened in refl;
+  },
+  unfold opened in refl,
+)
+accepted-keeps (allocate s align) len h ks f p =
+    taken-keeps len h ks (passed-stands len h ks (p .1 .0) (p .1 .1 .0)) (rounded s) align (find (rounded s) align ks)
+    (layout-passed s align (f .1) (p .1 .1 .1 .0) .power) (rounded-multiple s) (rounded-least s) refl
+accepted-keeps (free x s align) len h ks f p =
     given-keeps len h ks (passed-stands len h ks (p .1 .0) (p .1 .1 .0)) (rounded s) x align (rounded-multiple s) (rounded-least s)
-    (p .1 .1 .1 .1 .0))
-decided-keeps (extend by) len h ks f =
-    by-passes (Keeps len) (tests (extend by) len h ks) _ (λ r. tt)
-    (λ p.
+    (p .1 .1 .1 .1 .0)
+accepted-keeps (extend by) len h ks f p =
     extended-keeps len h ks (passed-stands len h ks (p .1 .0) (p .1 .1 .0)) by
-    (ltb-false (h .base .0 + h .len) (h .top .0 + h .pending + by) (or-left _ _ (p .1 .1 .1 .0))))
-decided-keeps list len h ks f = by-passes (Keeps len) (tests list len h ks) _ (λ r. tt) (λ p. tt)
-decided-keeps room len h ks f = by-passes (Keeps len) (tests room len h ks) _ (λ r. tt) (λ p. tt)
+    (ltb-false (h .base .0 + h .len) (h .top .0 + h .pending + by) (or-left _ _ (p .1 .1 .1 .0)))
+accepted-keeps list len h ks f p = tt
+accepted-keeps room len h ks f p = tt
+
+pub decided-keeps : (c : Call) (len : ℕ) (h : Heap) (ks : List Hole) → Fits c → Keeps len (decided c len h ks)
+decided-keeps c len h ks f = by-decided (Keeps len) c len h ks (λ r. tt) (accepted-keeps c len h ks f)
 
 pub outcome-keeps : (c : Call) (h : Heap) (m : List ℕ) → Fits c → Keeps (length m) (outcome c h m)
 unfolding outcome
@@ -154,4 +145,4 @@ outcome-keeps c h m f = decided-keeps c (length m) h (holes h m) f
 pub sound-kept : SoundKept ours
 sound-kept c h m a h′ ks f e =
     let st = (rw e at (outcome-keeps c h m f)) .0 in
-    ((numbers-words h′ (fair-sound h′ (st .fair)), holes-words h′ ks (st .sound)), sound-count h′ (st .fair) ks (st .sound))
+    (fair-words h′ ks (st .fair) (st .sound), sound-count h′ (st .fair) ks (st .sound))

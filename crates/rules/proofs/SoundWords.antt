@@ -2,18 +2,17 @@
 use mathlib.Core.Path.{_≡_, refl, sym, ap, _∙_}
 use mathlib.Core.Bool.{true}
 use mathlib.Core.List.{List, [], _∷_, _++_, List·Memᴰ, List·Memᴰ·head, List·Memᴰ·tail, List·Memᴰ·not-nil, List·Memᴰ·cases-cons}
-use mathlib.Core.Logic.{inl, inr, ⊎-elim}
+use mathlib.Core.Logic.{⊎-elim}
 use Prim.Native.Nat.{ℕ, _+_, _-_, _≤_}
 use native.Mathlib.Omega.{arith}
 use native.Mathlib.Nat.{max-le}
 use borrow.Author.Tests.{leb-true, eqb-true, le-leb, eq-eqb}
-use Rattle.rules.specs.declared.Addr.{Addr}
 use Rattle.rules.specs.declared.Hole.{Hole}
 use Rattle.rules.specs.declared.Heap.{Heap}
 use Rattle.rules.specs.Fixed.{minSize, grain}
 use Rattle.rules.specs.Round.{upTo}
 use Rattle.rules.specs.Tests.{all}
-use Rattle.rules.specs.Kinds.{addr, plus, same, notAfter, raised}
+use Rattle.rules.specs.Kinds.{addr, plus, notAfter, raised}
 use Rattle.rules.specs.Holes.{end, total}
 use Rattle.rules.specs.Sound.{numberRules, soundNumbers, gap, holeRules, lie, rise, leaveBefore, leaveAfter, listRules, soundHoles, sound}
 use Rattle.rules.specs.Allocate.{rounded}
@@ -21,11 +20,12 @@ use Rattle.rules.specs.Calls.{left, onlyHole}
 use Rattle.rules.specs.InWords.{Gap, endOf, sum, SoundNumbers, SoundHole, SoundHoles, Sound, Rounds, Left}
 use Rattle.rules.specs.Behaviour.{ours}
 use Rattle.rules.specs.Statements.{SoundMeans}
-use Rattle.rules.proofs.Cases.{cases, and-left, and-right, both, last, all-each, each-all}
+use Rattle.rules.proofs.Cases.{and-left, and-right, both, last, all-each, each-all}
+use Rattle.rules.proofs.Gaps.{gap-words, words-gap}
 use Rattle.rules.proofs.Multiples.{up-is, above-is, down-is, below-is}
 use Rattle.rules.proofs.Powers.{power-pos, grain-power}
 use Rattle.rules.proofs.Layouts.{rounded-is, is-rounded}
-use Rattle.rules.proofs.Walk.{sound-fair, fair-sound}
+use Rattle.rules.proofs.Walk.{Fair, sound-fair, fair-sound}
 
 -- ---- the roundings
 
@@ -81,27 +81,17 @@ numbers-words h e =
       fits = f .fits;
     }
 
-pub words-numbers : (h : Heap) → SoundNumbers h → soundNumbers h ≡ true
-words-numbers h p =
+pub words-fair : (h : Heap) → SoundNumbers h → Fair h
+words-fair h p =
     let b : h .bottom .0 ≡ upTo grain (h .base .0) = above-is (power-pos grain-power) (p .bottom) in
-    fair-sound h (omega arith)
+    omega arith
+
+pub words-numbers : (h : Heap) → SoundNumbers h → soundNumbers h ≡ true
+words-numbers h p = fair-sound h (words-fair h p)
 
 -- ---- the rules on the holes
 
-pub gap-words : (lo hi : Addr) → gap lo hi ≡ true → Gap (lo .0) (hi .0)
-unfolding gap
-gap-words lo hi e =
-    cases (same lo hi)
-    (λ q. inl (eqb-true (lo .0) (hi .0) q))
-    (λ q. inr (leb-true (lo .0 + minSize) (hi .0) (last (notAfter (plus lo minSize) hi) (rw q at e))))
-
-pub words-gap : (lo hi : Addr) → Gap (lo .0) (hi .0) → gap lo hi ≡ true
-unfolding gap
-words-gap lo hi (inl e) = rw (eq-eqb (lo .0) (hi .0) e)
-words-gap lo hi (inr l) =
-    cases (same lo hi) (λ q. rw q) (λ q. rw (q, le-leb (lo .0 + minSize) (hi .0) l))
-
-pub lie-words : (h : Heap) (ks : List Hole) → lie h ks ≡ true → (k : Hole) → List·Memᴰ k ks → SoundHole h k
+lie-words : (h : Heap) (ks : List Hole) → lie h ks ≡ true → (k : Hole) → List·Memᴰ k ks → SoundHole h k
 unfolding lie
 lie-words h [] e k m = absurd (List·Memᴰ·not-nil m)
 lie-words h (j ∷ ks) e k m =
@@ -112,7 +102,7 @@ lie-words h (j ∷ ks) e k m =
     (λ n. lie-words h ks (and-right (all (holeRules h j)) (lie h ks) e) k n)
     (List·Memᴰ·cases-cons m)
 
-pub words-lie : (h : Heap) (ks : List Hole) → ((k : Hole) → List·Memᴰ k ks → SoundHole h k) → lie h ks ≡ true
+words-lie : (h : Heap) (ks : List Hole) → ((k : Hole) → List·Memᴰ k ks → SoundHole h k) → lie h ks ≡ true
 unfolding lie
 words-lie h [] f = refl
 words-lie h (k ∷ ks) f =
@@ -134,10 +124,10 @@ rise-at [] back j k e =
     leb-true (endOf j + 16) (k .addr .0) (and-left (notAfter (plus (end j) minSize) (k .addr)) (rise (k ∷ back)) e)
 rise-at (i ∷ front) back j k e = rise-at front back j k (rise-tail i (front ++ (j ∷ k ∷ back)) e)
 
-pub rise-words : (ks : List Hole) → rise ks ≡ true → Apart ks
+rise-words : (ks : List Hole) → rise ks ≡ true → Apart ks
 rise-words ks e front back j k q = rise-at front back j k (rw q at e)
 
-pub words-rise : (ks : List Hole) → Apart ks → rise ks ≡ true
+words-rise : (ks : List Hole) → Apart ks → rise ks ≡ true
 unfolding rise
 words-rise [] f = refl
 words-rise (k ∷ []) f = refl
@@ -146,7 +136,7 @@ words-rise (k ∷ j ∷ js) f =
     (words-rise (j ∷ js) (λ front back i l q. f (k ∷ front) back i l (ap (λ (xs : List Hole). k ∷ xs) q)))
 
 -- the last hole leaves what the list leaves
-pub leaves-last : (h : Heap) (front : List Hole) (k : Hole) → leaveAfter h (front ++ (k ∷ [])) ≡ gap (end k) (h .top)
+leaves-last : (h : Heap) (front : List Hole) (k : Hole) → leaveAfter h (front ++ (k ∷ [])) ≡ gap (end k) (h .top)
 unfolding leaveAfter
 leaves-last h [] k = refl
 leaves-last h (j ∷ []) k = refl
@@ -166,7 +156,7 @@ unfolding leaveBefore
 words-before h [] f = refl
 words-before h (k ∷ ks) f = words-gap (h .bottom) (k .addr) (f k ks refl)
 
-pub sum-total : (ks : List Hole) → sum ks ≡ total ks
+sum-total : (ks : List Hole) → sum ks ≡ total ks
 unfolding total
 sum-total [] = refl
 sum-total (k ∷ ks) = rw (sum-total ks)
@@ -212,6 +202,9 @@ sound-words h ks e = (
 pub words-sound : (h : Heap) (ks : List Hole) → Sound h ks → sound h ks ≡ true
 unfolding sound
 words-sound h ks p = both (words-numbers h (p .0)) (words-holes h ks (p .1))
+
+pub fair-words : (h : Heap) (ks : List Hole) → Fair h → soundHoles h ks ≡ true → Sound h ks
+fair-words h ks f e = (numbers-words h (fair-sound h f), holes-words h ks e)
 
 pub sound-means : SoundMeans ours
 sound-means h ks = (sound-words h ks, words-sound h ks)

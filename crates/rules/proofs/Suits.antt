@@ -15,16 +15,16 @@ use Rattle.rules.specs.Kinds.{plus, multipleOf, raised}
 use Rattle.rules.specs.Holes.{end}
 use Rattle.rules.specs.Allocate.{candidate, suits, Found, nothing, found, later, find}
 use Rattle.rules.specs.InWords.{Gap, endOf, Lies, RoomAt}
-use Rattle.rules.proofs.Cases.{by-eq, by-test, both, apart}
+use Rattle.rules.proofs.Cases.{by-eq, by-test, both, apart, some-cases}
 use Rattle.rules.proofs.Multiples.{multiples-apart, multiple-trans, up-is}
 use Rattle.rules.proofs.Powers.{power-pos, eight-or-more}
 use Rattle.rules.proofs.Rises.{Rises}
-use Rattle.rules.proofs.SoundWords.{words-gap}
-use Rattle.rules.proofs.Used.{find-splits, candidate-leaves, candidate-low, suits-fits, suits-leaves}
+use Rattle.rules.proofs.Gaps.{words-gap, gap-le}
+use Rattle.rules.proofs.Used.{find-splits, candidate-gap, candidate-low, suits-fits, suits-gap}
 
 -- ---- the candidate
 
-pub candidate-multiple : (align : ℕ) (a : Addr) → 0 < align → candidate align a .0 % align ≡ 0
+candidate-multiple : (align : ℕ) (a : Addr) → 0 < align → candidate align a .0 % align ≡ 0
 unfolding candidate
 candidate-multiple align a pos =
     by-test (λ (c : Addr). c .0 % align ≡ 0) (multipleOf align a) a (raised align (plus a minSize))
@@ -62,7 +62,7 @@ module _ (align : ℕ) (a : Addr) (x : ℕ) (p : Power align) (e8 : a .0 % grain
       multiples-gap align (raised align (plus a minSize) .0) x (large align (a .0) p e8 n .0) (up .multiple) ex
       (up .least x ex l)
 
-  pub candidate-lowest : Gap (a .0) x → Gap (candidate align a .0) x
+  candidate-lowest : Gap (a .0) x → Gap (candidate align a .0) x
   unfolding candidate
   candidate-lowest g =
       by-test (λ (c : Addr). Gap (c .0) x) (multipleOf align a) a (raised align (plus a minSize))
@@ -74,14 +74,13 @@ module _ (align : ℕ) (a : Addr) (x : ℕ) (p : Power align) (e8 : a .0 % grain
 module _ (r align : ℕ) (k : Hole) where
   pub suits-lies : Power align → suits r align k ≡ true → Lies r align k (candidate align (k .addr) .0)
   suits-lies p e =
-      let c = candidate align (k .addr) .0 in
       let pos = power-pos p in
       record {
         multiple = candidate-multiple align (k .addr) pos;
         from = candidate-low align (k .addr) pos;
         to = suits-fits r align k e;
-        front = by-eq (k .addr .0) c inl (λ n. inr (candidate-leaves align (k .addr) pos n));
-        back = by-eq (c + r) (endOf k) inl (λ n. inr (suits-leaves r align k e n));
+        front = candidate-gap align (k .addr) pos;
+        back = suits-gap r align k e;
       }
 
   -- a block that lies lower, or as low, leaves as much behind it
@@ -89,11 +88,7 @@ module _ (r align : ℕ) (k : Hole) where
   lower c x (inl e) to back = rw e back
   lower c x (inr l) to back = inr (omega arith)
 
-  gap-le : (c x : ℕ) → Gap c x → c ≤ x
-  gap-le c x (inl e) = omega arith
-  gap-le c x (inr l) = omega arith
-
-  pub lies-suits : {x : ℕ} → Power align → k .addr .0 % grain ≡ 0 → Lies r align k x
+  lies-suits : {x : ℕ} → Power align → k .addr .0 % grain ≡ 0 → Lies r align k x
       → (suits r align k ≡ true) × (candidate align (k .addr) .0 ≤ x)
   unfolding suits
   lies-suits {x} p e8 lies =
@@ -112,19 +107,13 @@ module _ (r align : ℕ) (k : Hole) where
 abbrev pub Placed : List Hole → Type 0
 Placed ks = (k : Hole) → List·Memᴰ k ks → k .addr .0 % grain ≡ 0
 
-pub rises-member : (lo hi : ℕ) (ks : List Hole) (k : Hole) → Rises lo hi ks → List·Memᴰ k ks → lo ≤ k .addr .0
+rises-member : (lo hi : ℕ) (ks : List Hole) (k : Hole) → Rises lo hi ks → List·Memᴰ k ks → lo ≤ k .addr .0
 rises-member lo hi [] k s m = absurd (List·Memᴰ·not-nil m)
 rises-member lo hi (j ∷ js) k s m =
     ⊎-elim
     (λ (e : k ≡ j). rw e (s .0))
     (λ (t : List·Memᴰ k js). omega (arith, rises-member (end j .0) hi js k (s .2) t))
     (List·Memᴰ·cases-cons m)
-
--- room is in the first hole or in those behind it
-room-cases {ℓ} : {X : Type ℓ} (r align : ℕ) (k : Hole) (ks : List Hole) (x : ℕ) → RoomAt r align (k ∷ ks) x
-    → (Lies r align k x → X) → (RoomAt r align ks x → X) → X
-room-cases r align k ks x (j, m, l) f g =
-    ⊎-elim (λ (e : j ≡ k). f (rw e at l)) (λ (t : List·Memᴰ j ks). g (j, t, l)) (List·Memᴰ·cases-cons m)
 
 pub by-found {ℓ} : {X : Type ℓ} (f : Found) → (f ≡ nothing → X)
     → ((front : List Hole) (k : Hole) (back : List Hole) → f ≡ found front k back → X) → X
@@ -140,9 +129,9 @@ module _ (r align : ℕ) (p : Power align) where
 
   lowest-later : (k : Hole) (ks : List Hole) (f : Found) → ((x : ℕ) → Lies r align k x → ⊥) → Lowest ks f → Lowest (k ∷ ks) (later k f)
   unfolding later
-  lowest-later k ks nothing n low = λ x m. room-cases r align k ks x m (n x) (low x)
+  lowest-later k ks nothing n low = λ x m. some-cases (λ j. Lies r align j x) m (n x) (low x)
   lowest-later k ks (found front j back) n low =
-      λ lo hi s x m. room-cases r align k ks x m (λ l. absurd (n x l)) (low (end k .0) hi (s .2) x)
+      λ lo hi s x m. some-cases (λ j. Lies r align j x) m (λ l. absurd (n x l)) (low (end k .0) hi (s .2) x)
 
   find-lowest : (ks : List Hole) → Placed ks → Lowest ks (find r align ks)
   unfolding find
@@ -151,7 +140,7 @@ module _ (r align : ℕ) (p : Power align) where
       let e8 = g k (List·Memᴰ·head refl) in
       by-test (Lowest (k ∷ ks)) (suits r align k) (found [] k ks) (later k (find r align ks))
       (λ e lo hi s x m.
-      room-cases r align k ks x m
+      some-cases (λ j. Lies r align j x) m
       (λ l. lies-suits r align k p e8 l .1)
       (λ t. omega (arith, suits-fits r align k e, rises-member (end k .0) hi ks (t .0) (s .2) (t .1), t .2 .from)))
       (λ e.

@@ -1,8 +1,8 @@
 -- A test and a statement that say the same; so say the tests behind each refusal and the paper's words for it. Assumes nothing.
 use mathlib.Core.Path.{_≡_, refl, subst}
 use mathlib.Core.Bool.{Bool, true, false, _||_, not, or-true}
-use mathlib.Core.List.{List, [], _∷_, List·Memᴰ, List·Memᴰ·head, List·Memᴰ·tail, List·Memᴰ·not-nil, List·Memᴰ·cases-cons}
-use mathlib.Core.Logic.{_⊎_, inl, inr, ⊎-elim}
+use mathlib.Core.List.{List, [], _∷_, List·Memᴰ, List·Memᴰ·not-nil}
+use mathlib.Core.Logic.{_⊎_, inl, inr}
 use Prim.Native.Nat.{ℕ, _+_, _-_, _%_, _^_, _<_}
 use native.Mathlib.Omega.{arith}
 use lib.Dec.{eqb, ltb}
@@ -20,7 +20,7 @@ use Rattle.rules.specs.Free.{overlaps, eightToHole}
 use Rattle.rules.specs.Calls.{onlyHole}
 use Rattle.rules.specs.Refusals.{refusal1, onePower, refusal6, refusal8}
 use Rattle.rules.specs.InWords.{endOf, Rounds, Left, NoStart, NoLayout, NoSpan}
-use Rattle.rules.proofs.Cases.{cases, apart, last, all-each, each-all}
+use Rattle.rules.proofs.Cases.{cases, apart, last, all-each, each-all, Some, some-first, some-later, some-cases}
 use Rattle.rules.proofs.Powers.{one-power, power-one}
 use Rattle.rules.proofs.Layouts.{rounded-least}
 use Rattle.rules.proofs.SoundWords.{rounded-rounds, rounds-rounded, left-is, is-left}
@@ -36,10 +36,13 @@ means-eq a b = (eqb-true a b, eq-eqb a b)
 pub means-lt : (a b : ℕ) → Means (ltb a b) (a < b)
 means-lt a b = (ltb-true a b, lt-ltb a b)
 
-pub means-not : {b : Bool} {P : Type 0} → Means b P → Means (not b) (P → ⊥)
-means-not {b} m = (λ e p. apart (m .1 p) (not-true b e), λ n. cases b (λ e. absurd (n (m .0 e))) (λ e. rw e))
+pub means-fails : {b : Bool} {P : Type 0} → Means b P → (P → ⊥) → b ≡ false
+means-fails {b} m n = cases b (λ e. absurd (n (m .0 e))) (λ e. e)
 
-pub means-both : {b c : Bool} {P Q : Type 0} → Means b P → Means c Q → Means (all (b ∷ c ∷ [])) (P × Q)
+pub means-not : {b : Bool} {P : Type 0} → Means b P → Means (not b) (P → ⊥)
+means-not {b} m = (λ e p. apart (m .1 p) (not-true b e), λ n. rw (means-fails m n))
+
+means-both : {b c : Bool} {P Q : Type 0} → Means b P → Means c Q → Means (all (b ∷ c ∷ [])) (P × Q)
 means-both {b} {c} m n = (
   λ e. let r = all-each (b ∷ c ∷ []) e in (m .0 (r .0), n .0 (r .1 .0)),
   λ p. each-all (b ∷ c ∷ []) (m .1 (p .0), (n .1 (p .1), tt)),
@@ -49,7 +52,7 @@ or-means : {b c : Bool} {P Q : Type 0} → Means b P → Means c Q → P ⊎ Q �
 or-means m n (inl p) = rw (m .1 p)
 or-means {b} m n (inr q) = rw (n .1 q) (or-true b)
 
-pub means-or : {b c : Bool} {P Q : Type 0} → Means b P → Means c Q → Means (b || c) (P ⊎ Q)
+means-or : {b c : Bool} {P Q : Type 0} → Means b P → Means c Q → Means (b || c) (P ⊎ Q)
 means-or {b} m n = (λ e. cases b (λ q. inl (m .0 q)) (λ q. inr (n .0 (rw q at e))), or-means m n)
 
 -- the last test of a list
@@ -57,18 +60,11 @@ pub means-last : {b : Bool} {P : Type 0} → Means b P → Means (b || false) P
 means-last {b} m = (λ e. m .0 (last b e), λ p. rw (m .1 p))
 
 -- one of the holes
-pub means-some : (P : Hole → Type 0) {b c : Bool} (k : Hole) (ks : List Hole) → Means b (P k) → Means c ((j : Hole) × List·Memᴰ j ks × P j)
-    → Means (b || c) ((j : Hole) × List·Memᴰ j (k ∷ ks) × P j)
+means-some : (P : Hole → Type 0) {b c : Bool} (k : Hole) (ks : List Hole) → Means b (P k) → Means c (Some P ks)
+    → Means (b || c) (Some P (k ∷ ks))
 means-some P {b} {c} k ks m n = (
-  λ e.
-      cases b
-      (λ q. (k, List·Memᴰ·head refl, m .0 q))
-      (λ q. let t = n .0 (rw q at e) in (t .0, List·Memᴰ·tail (t .1), t .2)),
-  λ t.
-      ⊎-elim
-      (λ (q : t .0 ≡ k). rw (m .1 (subst P q (t .2))))
-      (λ (d : List·Memᴰ (t .0) ks). rw (n .1 (t .0, d, t .2)) (or-true b))
-      (List·Memᴰ·cases-cons (t .1)),
+  λ e. cases b (λ q. some-first P (m .0 q)) (λ q. some-later P (n .0 (rw q at e))),
+  λ t. some-cases P t (λ p. rw (m .1 p)) (λ s. rw (n .1 s) (or-true b)),
 )
 
 -- the rounded size is the only one that the paper's words fit

@@ -13,14 +13,14 @@ use Rattle.rules.specs.Sound.{size}
 use Rattle.rules.specs.Allocate.{rounded}
 use Rattle.rules.specs.InWords.{Vacant}
 use Rattle.rules.specs.Runs.{Block, Box}
-use Rattle.rules.specs.Demands.{Occupied, Tiles}
+use Rattle.rules.specs.Statements.{Occupied, Tiles}
 use Rattle.rules.proofs.Cases.{by-le}
 use Rattle.rules.proofs.SoundWords.{rounded-rounds, rounds-rounded}
-use Rattle.rules.proofs.Vacancy.{Inside}
-use Rattle.rules.proofs.Cover.{once, cover, once-in, once-inside, once-most, cover-append, cover-member, cover-two, vacant-cover, cover-vacant}
+use Rattle.rules.proofs.Sums.{added, added-append}
+use Rattle.rules.proofs.Cover.{Inside, once, cover, once-in, once-inside, once-most, cover-member, cover-two, vacant-cover, cover-vacant}
 
 -- the stretches cover each address of the range once, and no other
-abbrev pub Fills : Hole → List Hole → Type 0
+abbrev Fills : Hole → List Hole → Type 0
 Fills range ks = (y : ℕ) → cover y ks ≡ once y range
 
 module _ (range : Hole) (ks : List Hole) (fills : Fills range ks) where
@@ -33,6 +33,11 @@ module _ (range : Hole) (ks : List Hole) (fills : Fills range ks) where
   fills-one : (j k : Hole) → List·Memᴰ j ks → List·Memᴰ k ks → (j ≡ k → ⊥) → (y : ℕ) → Inside j y → Inside k y → ⊥
   fills-one j k m n d y v w =
       omega (arith, fills y, cover-two y ks j k m n d, once-in y j v, once-in y k w, once-most y range)
+
+  -- no stretch starts inside another
+  fills-past : (i k : Hole) → List·Memᴰ i ks → List·Memᴰ k ks → 0 < k .size → i .addr .0 < k .addr .0 → k .addr .0 < end i .0 → ⊥
+  fills-past i k m n pos low high =
+      fills-one i k m n (λ d. omega (arith, ap (λ (x : Hole). x .addr .0) d)) (k .addr .0) (omega arith) (omega arith)
 
   -- where a stretch ends inside the range, another starts
   fills-next : (k : Hole) → List·Memᴰ k ks → 0 < k .size → end k .0 < end range .0
@@ -63,7 +68,7 @@ module _ (range : Hole) (ks : List Hole) (fills : Fills range ks) where
         let i = next .0 in
         let ib = big i (next .1) in
         let q = next .2 in
-        fills-one i k (next .1) n (λ d. omega (arith, ap (λ (x : Hole). x .addr .0) d)) (k .addr .0) (omega arith) (omega arith)
+        fills-past i k (next .1) n (omega arith) (omega arith) (omega arith)
 
     pub no-eight-before : (k : Hole) → List·Memᴰ k ks → range .addr .0 + grain ≡ k .addr .0 → ⊥
     no-eight-before k m e =
@@ -73,7 +78,7 @@ module _ (range : Hole) (ks : List Hole) (fills : Fills range ks) where
         let i = first .0 in
         let ib = big i (first .1) in
         let q = first .2 in
-        fills-one i k (first .1) m (λ d. omega (arith, ap (λ (x : Hole). x .addr .0) d)) (k .addr .0) (omega arith) (omega arith)
+        fills-past i k (first .1) m (omega arith) (omega arith) (omega arith)
 
     pub no-eight-behind : (k : Hole) → List·Memᴰ k ks → end k .0 + grain ≡ end range .0 → ⊥
     no-eight-behind k m e =
@@ -106,7 +111,7 @@ abbrev pub Filled : Box → Type 0
 Filled b = (y : ℕ) → cover y (b .holes) + cover y (spans (b .held)) ≡ once y (range (b .heap))
 
 pub filled-fills : (b : Box) → Filled b → Fills (range (b .heap)) (parts b)
-filled-fills b f y = cover-append y (b .holes) (spans (b .held)) ∙ f y
+filled-fills b f y = added-append (once y) (b .holes) (spans (b .held)) ∙ f y
 
 -- ---- in the paper's words
 
@@ -119,11 +124,11 @@ vacant-occupied bs y (k, m, w) =
     (t .0, t .1, rounded (t .0 .size), rounded-rounds (t .0 .size), rw (← t .2) at w)
 
 spans-append : (y : ℕ) (xs ys : List Block) → cover y (spans (xs ++ ys)) ≡ cover y (spans xs) + cover y (spans ys)
-spans-append y xs ys = rw (map-append span xs ys) (cover-append y (spans xs) (spans ys))
+spans-append y xs ys = rw (map-append span xs ys) (added-append (once y) (spans xs) (spans ys))
 
 spans-two : (y : ℕ) (front mid back : List Block) (c d : Block)
     → once y (span c) + once y (span d) ≤ cover y (spans (front ++ (c ∷ (mid ++ (d ∷ back)))))
-unfolding cover
+unfolding added
 spans-two y front mid back c d =
     omega (arith, spans-append y front (c ∷ (mid ++ (d ∷ back))), spans-append y mid (d ∷ back))
 

@@ -1,57 +1,51 @@
 -- What a call leaves as it was: a refusal everything, a call that only tells heap and memory, every call but list its rows; and that
 -- no more than one outcome meets a promise. Assumes nothing.
 use mathlib.Core.Path.{_≡_, refl, sym, _∙_}
-use mathlib.Core.List.{List, [], _∷_}
-use Prim.Native.Nat.{ℕ, zero, suc, _+_, min}
+use mathlib.Core.List.{List, []}
+use Prim.Native.Nat.{ℕ, _+_, min}
 use lib.Dec.{ltb}
 use lib.ListN.{length, take}
+use lib.Seq.{take-nil}
 use Rattle.rules.specs.declared.Hole.{Hole}
 use Rattle.rules.specs.declared.Heap.{Heap}
 use Rattle.rules.specs.declared.Done.{Done}
 use Rattle.rules.specs.declared.Answer.{Answer}
 use Rattle.rules.specs.Fixed.{minSize}
-use Rattle.rules.specs.Tests.{any}
 use Rattle.rules.specs.Sound.{holes}
 use Rattle.rules.specs.Allocate.{rounded, Found, nothing, found, find}
-use Rattle.rules.specs.Calls.{Call, opening, allocate, free, extend, list, room, Outcome, refused, taken, given, gathered, grown, extended, accepted}
-use Rattle.rules.specs.Refusals.{Test, tests, unless}
-use Rattle.rules.specs.Outcome.{decided, outcome, leaves, after, Rows, over, inRows, leavesRows, rowsAfter}
+use Rattle.rules.specs.Calls.{Call, opening, allocate, free, extend, list, room, Outcome, taken, given, gathered, grown, extended, accepted}
+use Rattle.rules.specs.Outcome.{outcome, leaves, after, Rows, over, inRows, leavesRows, rowsAfter}
 use Rattle.rules.specs.Behaviour.{ours}
-use Rattle.rules.specs.Statements.{RefusalsKeep, TellsOnly, OtherRows}
-use Rattle.rules.specs.Demands.{NothingLoose}
+use Rattle.rules.specs.Statements.{RefusalsKeep, TellsOnly, OtherRows, NothingLoose}
 use Rattle.rules.proofs.Cases.{by-test}
+use Rattle.rules.proofs.Calls.{answer-refused, answer-told, rows-refused}
+use Rattle.rules.proofs.Passes.{by-decided}
 
 pub refusals-keep : RefusalsKeep ours
-unfolding after leaves rowsAfter leavesRows
-refusals-keep c h m rows r e = (rw e, rw e, rw e, rw e)
+unfolding after leaves
+refusals-keep c h m rows r e = (answer-refused c h m r e, rw e, rw e, rows-refused c h m r rows e)
 
 pub tells-only : TellsOnly ours
 unfolding after leaves
-tells-only c h m a ks e = (rw e, rw e, rw e)
+tells-only c h m a ks e = (answer-told c h m a ks e, rw e, rw e)
 
 -- what is handed back is known by its answer and its heap
 done-is : (d : Done) {a : Answer} {h : Heap} → d .answer ≡ a → d .heap ≡ h → d ≡ record { answer = a; heap = h }
 done-is d p q = rw (← p, ← q)
 
 pub nothing-loose : NothingLoose
-nothing-loose a d e m w p q = (done-is d (p .0) (p .1) ∙ sym (done-is e (q .0) (q .1)), p .2 ∙ sym (q .2))
+nothing-loose c h m r d e w v s t p q x y =
+    (rw (p .0, q .0), done-is d (p .0) (p .1) ∙ sym (done-is e (q .0) (q .1)), p .2 ∙ sym (q .2), x ∙ sym y)
 
 -- ---- the rows
 
 none-over : (n : ℕ) (row : List ℕ) → over (take n []) row ≡ row
 unfolding over
-none-over zero row = refl
-none-over (suc n) row = refl
+none-over n row = rw (take-nil {A = ℕ} n)
 
 module _ (r : Rows) where
   abbrev Stays : Outcome → Type 0
   Stays o = leavesRows r o ≡ r
-
-  unless-stays : (qs : List Test) (o : Outcome) → Stays o → Stays (unless qs o)
-  unfolding unless leavesRows
-  unless-stays [] o e = e
-  unless-stays (q ∷ qs) o e =
-      by-test Stays (any (q .«exactly-if»)) (refused (q .gives)) (unless qs o) (λ t. refl) (λ t. unless-stays qs o e)
 
   taken-stays : (s align : ℕ) (h : Heap) (ks : List Hole) (f : Found) → Stays (taken s align h ks f)
   unfolding taken leavesRows
@@ -75,7 +69,8 @@ module _ (r : Rows) where
       rw (none-over k (r .addrs), none-over k (r .sizes))
 
 pub other-rows : OtherRows ours
-unfolding rowsAfter outcome decided
+unfolding rowsAfter outcome
 other-rows c h m r n =
-    unless-stays r (tests c (length m) h (holes h m)) (accepted c (length m) h (holes h m))
-    (accepted-stays r c (length m) h (holes h m) n)
+    by-decided (Stays r) c (length m) h (holes h m)
+    (λ q. unfold leavesRows in refl)
+    (λ p. accepted-stays r c (length m) h (holes h m) n)

@@ -2,9 +2,10 @@
 use mathlib.Core.Path.{_≡_, refl}
 use mathlib.Core.Bool.{true}
 use mathlib.Core.List.{List, [], _∷_, _++_}
+use mathlib.Core.Logic.{inl, inr}
 use Prim.Native.Nat.{ℕ, _+_, _≤_, _<_}
 use native.Mathlib.Omega.{arith}
-use borrow.Author.Tests.{leb-true, eqb-true, eqb-false, ne-eqb}
+use borrow.Author.Tests.{leb-true, eqb-true, eqb-false}
 use Rattle.rules.specs.declared.Addr.{Addr}
 use Rattle.rules.specs.declared.Hole.{Hole}
 use Rattle.rules.specs.Fixed.{minSize}
@@ -12,10 +13,12 @@ use Rattle.rules.specs.Kinds.{plus, bytesTo, same, notAfter, multipleOf,
 use Rattle.rules.specs.Holes.{hole, end, total}
 use Rattle.rules.specs.Sound.{gap}
 use Rattle.rules.specs.Allocate.{candidate, suits, Found, nothing, found, later, find, remains, split}
-use Rattle.rules.proofs.Cases.{by-test, by-eq, and-left, and-right, last}
+use Rattle.rules.specs.InWords.{Gap}
+use Rattle.rules.proofs.Cases.{by-test, and-left, and-right}
+use Rattle.rules.proofs.Gaps.{gap-words, gap-le, gap-apart}
 use Rattle.rules.proofs.Multiples.{up-is}
 use Rattle.rules.proofs.Rises.{Rises, rises-widen, endOr, rises-front, rises-back, rises-append}
-use Rattle.rules.proofs.Clear.{total-append}
+use Rattle.rules.proofs.Sums.{total-append}
 
 -- ---- the first suiting hole
 
@@ -44,24 +47,17 @@ find-splits s align ks front back k e = rw e at (find-parts s align ks)
 -- ---- the candidate
 
 -- the hole's start or at least 16 bytes behind it
-pub candidate-leaves : (align : ℕ) (a : Addr) → 0 < align → (a .0 ≡ candidate align a .0 → ⊥)
-    → a .0 + minSize ≤ candidate align a .0
+pub candidate-gap : (align : ℕ) (a : Addr) → 0 < align → Gap (a .0) (candidate align a .0)
 unfolding candidate
-candidate-leaves align a pos =
-    by-test (λ (c : Addr). (a .0 ≡ c .0 → ⊥) → a .0 + minSize ≤ c .0) (multipleOf align a) a (raised align (plus a minSize))
-    (λ e n. absurd (n refl))
-    (λ e n. up-is align (a .0 + minSize) pos .above)
+candidate-gap align a pos =
+    by-test (λ (c : Addr). Gap (a .0) (c .0)) (multipleOf align a) a (raised align (plus a minSize))
+    (λ e. inl refl)
+    (λ e. inr (up-is align (a .0 + minSize) pos .above))
 
 pub candidate-low : (align : ℕ) (a : Addr) → 0 < align → a .0 ≤ candidate align a .0
-candidate-low align a pos =
-    by-eq (a .0) (candidate align a .0) (λ e. omega arith) (λ n. omega (arith, candidate-leaves align a pos n))
+candidate-low align a pos = gap-le (a .0) (candidate align a .0) (candidate-gap align a pos)
 
 -- ---- a hole that suits
-
-gap-leaves : (lo hi : Addr) → gap lo hi ≡ true → (lo .0 ≡ hi .0 → ⊥) → lo .0 + minSize ≤ hi .0
-unfolding gap
-gap-leaves lo hi e n =
-    leb-true (lo .0 + minSize) (hi .0) (last (notAfter (plus lo minSize) hi) (rw (ne-eqb (lo .0) (hi .0) n) at e))
 
 module _ (s align : ℕ) (k : Hole) (suit : suits s align k ≡ true) where
   pub suits-fits : candidate align (k .addr) .0 + s ≤ end k .0
@@ -70,54 +66,36 @@ module _ (s align : ℕ) (k : Hole) (suit : suits s align k ≡ true) where
       leb-true (candidate align (k .addr) .0 + s) (end k .0)
       (and-left (notAfter (plus (candidate align (k .addr)) s) (end k)) (gap (plus (candidate align (k .addr)) s) (end k)) suit)
 
-  pub suits-leaves : (candidate align (k .addr) .0 + s ≡ end k .0 → ⊥) → candidate align (k .addr) .0 + s + minSize ≤ end k .0
+  pub suits-gap : Gap (candidate align (k .addr) .0 + s) (end k .0)
   unfolding suits
-  suits-leaves =
-      gap-leaves (plus (candidate align (k .addr)) s) (end k)
+  suits-gap =
+      gap-words (plus (candidate align (k .addr)) s) (end k)
       (and-right (notAfter (plus (candidate align (k .addr)) s) (end k)) (gap (plus (candidate align (k .addr)) s) (end k)) suit)
 
-  pub suits-room : 0 < align → s ≤ k .size
+  pub suits-leaves : (candidate align (k .addr) .0 + s ≡ end k .0 → ⊥) → candidate align (k .addr) .0 + s + minSize ≤ end k .0
+  suits-leaves = gap-apart (candidate align (k .addr) .0 + s) (end k .0) suits-gap
+
+  suits-room : 0 < align → s ≤ k .size
   suits-room pos = omega (arith, suits-fits, candidate-low align (k .addr) pos)
 
 -- ---- what is left of it
 
-remains-rises : (lo hi : Addr) → ((lo .0 ≡ hi .0 → ⊥) → lo .0 + minSize ≤ hi .0) → Rises (lo .0) (hi .0) (remains lo hi)
+remains-rises : (lo hi : Addr) → Gap (lo .0) (hi .0) → Rises (lo .0) (hi .0) (remains lo hi)
 unfolding remains
 remains-rises lo hi g =
     by-test (Rises (lo .0) (hi .0)) (same lo hi) [] (hole lo (bytesTo lo hi) ∷ [])
     (λ e. omega (arith, eqb-true (lo .0) (hi .0) e))
-    (λ e. let w = g (eqb-false (lo .0) (hi .0) e) in omega arith)
-
-remains-total : (lo hi : Addr) → total (remains lo hi) ≡ bytesTo lo hi
-unfolding remains total
-remains-total lo hi =
-    by-test (λ (ks : List Hole). total ks ≡ bytesTo lo hi) (same lo hi) [] (hole lo (bytesTo lo hi) ∷ [])
-    (λ e. omega (arith, eqb-true (lo .0) (hi .0) e))
-    (λ e. omega arith)
+    (λ e. let w = gap-apart (lo .0) (hi .0) g (eqb-false (lo .0) (hi .0) e) in omega arith)
 
 module _ (s align : ℕ) (k : Hole) (suit : suits s align k ≡ true) (pos : 0 < align) where
-  pub split-rises : Rises (k .addr .0) (end k .0) (split s align k)
+  split-rises : Rises (k .addr .0) (end k .0) (split s align k)
   unfolding split
   split-rises =
       let c = candidate align (k .addr) in
-      let front = remains-rises (k .addr) c (candidate-leaves align (k .addr) pos) in
-      let back = remains-rises (plus c s) (end k) (suits-leaves s align k suit) in
+      let front = remains-rises (k .addr) c (candidate-gap align (k .addr) pos) in
+      let back = remains-rises (plus c s) (end k) (suits-gap s align k suit) in
       rises-append (k .addr .0) (c .0) (end k .0) (remains (k .addr) c) (remains (plus c s) (end k)) front
       (rises-widen (c .0) (c .0 + s) (end k .0) (end k .0) (remains (plus c s) (end k)) (omega arith) (omega arith) back)
-
-  -- the block and what is left fill the hole
-  pub split-total : total (split s align k) + s ≡ k .size
-  unfolding split
-  split-total =
-      let c = candidate align (k .addr) in
-      omega (
-        arith,
-        total-append (remains (k .addr) c) (remains (plus c s) (end k)),
-        remains-total (k .addr) c,
-        remains-total (plus c s) (end k),
-        suits-fits s align k suit,
-        candidate-low align (k .addr) pos,
-      )
 
   -- in its place among the holes
   pub used-rises : (lo hi : ℕ) (front back : List Hole) → Rises lo hi (front ++ (k ∷ back))
@@ -129,20 +107,9 @@ module _ (s align : ℕ) (k : Hole) (suit : suits s align k ≡ true) (pos : 0 <
       (rises-widen (endOr lo front) (k .addr .0) (end k .0) (end k .0) (split s align k) (q .0) (omega arith) split-rises)
       (q .2))
 
-  pub used-total : (front back : List Hole) → total (front ++ (split s align k ++ back)) + s ≡ total (front ++ (k ∷ back))
-  unfolding total
-  used-total front back =
-      omega (
-        arith,
-        total-append front (split s align k ++ back),
-        total-append (split s align k) back,
-        total-append front (k ∷ back),
-        split-total,
-      )
-
 -- ---- the room for the block
 
-pub find-room : (s align : ℕ) (ks front back : List Hole) (k : Hole) → 0 < align → find s align ks ≡ found front k back
+find-room : (s align : ℕ) (ks front back : List Hole) (k : Hole) → 0 < align → find s align ks ≡ found front k back
     → s ≤ k .size
 find-room s align ks front back k pos e = suits-room s align k (find-splits s align ks front back k e .1) pos
 

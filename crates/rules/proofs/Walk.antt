@@ -1,12 +1,13 @@
 -- Soundness as a walk reads it: head by head, with a floor below which the next hole may not lie. Assumes nothing.
 use mathlib.Core.Path.{_≡_, refl, sym, _∙_}
-use mathlib.Core.Bool.{Bool, true, false, _&&_, cond}
+use mathlib.Core.Bool.{Bool, true, _&&_, cond}
 use mathlib.Core.List.{List, [], _∷_}
-use Prim.Native.Nat.{ℕ, _+_, _-_, _*_, _%_, _^_, _≤_, _<_}
+use mathlib.Core.Logic.{inl, inr, ⊎-elim}
+use Prim.Native.Nat.{_+_, _*_, _%_, _≤_, _<_}
 use native.Mathlib.Omega.{arith}
 use lib.Dec.{leb, eqb}
 use lib.ListN.{length}
-use borrow.Author.Tests.{leb-true, leb-false, eqb-true, eqb-false, le-leb, lt-leb, eq-eqb, ne-eqb}
+use borrow.Author.Tests.{leb-true, eqb-true, eqb-false, le-leb, eq-eqb}
 use Rattle.rules.specs.declared.Addr.{Addr}
 use Rattle.rules.specs.declared.Hole.{Hole}
 use Rattle.rules.specs.declared.Heap.{Heap}
@@ -15,7 +16,9 @@ use Rattle.rules.specs.Tests.{all, any}
 use Rattle.rules.specs.Kinds.{plus, same, notAfter, multipleOf}
 use Rattle.rules.specs.Holes.{end, total}
 use Rattle.rules.specs.Sound.{size, numberRules, soundNumbers, gap, holeRules, lie, rise, leaveBefore, leaveAfter, listRules, soundHoles, most}
-use Rattle.rules.proofs.Cases.{cases, iff, by-eq, by-le, and-left, and-right, both, last, Each, all-each, each-all}
+use Rattle.rules.specs.InWords.{Gap}
+use Rattle.rules.proofs.Cases.{cases, iff, by-test, and-left, and-right, both, last, all-each, each-all}
+use Rattle.rules.proofs.Gaps.{gap-words, words-gap, gap-le, gap-apart}
 
 -- ---- the rules on the numbers, as numbers
 
@@ -51,6 +54,20 @@ headRules h floor k =
     ∷ notAfter (end k) (h .top)
     ∷ []
 
+-- the same, as numbers
+pub record Keeps (h : Heap) (floor : Addr) (k : Hole) : Type 0 where
+  pub above : floor .0 ≤ k .addr .0
+  pub addr8 : k .addr .0 % grain ≡ 0
+  pub size8 : k .size % grain ≡ 0
+  pub least : minSize ≤ k .size
+  pub inside : k .addr .0 + k .size ≤ h .top .0
+
+pub rules-keep : (h : Heap) (floor : Addr) (k : Hole) → all (headRules h floor k) ≡ true → Keeps h floor k
+rules-keep h floor k e = let r = all-each (headRules h floor k) e in omega (arith, leb-true, eqb-true)
+
+pub keep-rules : (h : Heap) (floor : Addr) (k : Hole) → Keeps h floor k → all (headRules h floor k) ≡ true
+keep-rules h floor k r = each-all (headRules h floor k) (omega (arith, le-leb, eq-eqb))
+
 -- the floor behind a hole
 abbrev pub behind : Hole → Addr
 behind k = plus (end k) minSize
@@ -69,35 +86,57 @@ unfoldable pub floorOf : Heap → List Hole → Addr
 floorOf h [] = plus (h .bottom) minSize
 floorOf h (k ∷ ks) = cond (same (h .bottom) (k .addr)) (h .bottom) (plus (h .bottom) minSize)
 
+-- ---- step by step
+
+module _ (h : Heap) (floor : Addr) where
+  module _ (k : Hole) (ks : List Hole) where
+    pub walks-head : walks h floor (k ∷ ks) ≡ true → Keeps h floor k
+    unfolding walks
+    walks-head e = rules-keep h floor k (and-left (all (headRules h floor k)) (walks h (behind k) ks) e)
+
+    pub walks-tail : walks h floor (k ∷ ks) ≡ true → walks h (behind k) ks ≡ true
+    unfolding walks
+    walks-tail e = and-right (all (headRules h floor k)) (walks h (behind k) ks) e
+
+    pub walks-cons : Keeps h floor k → walks h (behind k) ks ≡ true → walks h floor (k ∷ ks) ≡ true
+    unfolding walks
+    walks-cons q w = both (keep-rules h floor k q) w
+
+  pub ends-low : floor .0 ≤ h .top .0 → ends h floor ≡ true
+  unfolding ends
+  ends-low l = rw (le-leb (floor .0) (h .top .0) l)
+
+  pub ends-top : floor .0 ≡ h .top .0 + minSize → ends h floor ≡ true
+  unfolding ends
+  ends-top e =
+      rw (eq-eqb (floor .0) (h .top .0 + minSize) e) (cases (notAfter floor (h .top)) (λ q. rw q) (λ q. rw q))
+
+  pub ends-cases {ℓ} : {X : Type ℓ} → ends h floor ≡ true → (floor .0 ≤ h .top .0 → X) → (floor .0 ≡ h .top .0 + minSize → X) → X
+  unfolding ends
+  ends-cases e f g =
+      cases (notAfter floor (h .top))
+      (λ q. f (leb-true (floor .0) (h .top .0) q))
+      (λ q. g (eqb-true (floor .0) (h .top .0 + minSize) (last (same floor (plus (h .top) minSize)) (rw q at e))))
+
 -- ---- the two forms say the same
 
 gap-behind : (h : Heap) (k : Hole) → ends h (behind k) ≡ gap (end k) (h .top)
-unfolding ends gap
 gap-behind h k =
-    let e = k .addr .0 + k .size in
-    let t = h .top .0 in
-    by-eq e t
-    (λ p.
-    let a : leb (e + 16) t ≡ false = lt-leb (e + 16) t (omega arith) in
-    let b : eqb (e + 16) (t + 16) ≡ true = eq-eqb (e + 16) (t + 16) (omega arith) in
-    let c : eqb e t ≡ true = eq-eqb _ _ p in
-    rw (a, b, c) refl)
-    (λ n.
-    let b : eqb (e + 16) (t + 16) ≡ false = ne-eqb (e + 16) (t + 16) (λ p. n (omega (arith, p))) in
-    let c : eqb e t ≡ false = ne-eqb _ _ n in
-    cases (leb (e + 16) t) (λ a. simp (a, b, c)) (λ a. simp (a, b, c)))
+    iff
+    (λ e. words-gap (end k) (h .top) (ends-cases h (behind k) e inr (λ q. inl (omega arith))))
+    (λ e. ⊎-elim (λ q. ends-top h (behind k) (omega arith)) (ends-low h (behind k)) (gap-words (end k) (h .top) e))
 
 -- a list that keeps the rules on holes is walked through, from a floor that its first hole keeps
 kept-walks : (h : Heap) (floor : Addr) (k : Hole) (ks : List Hole) → floor .0 ≤ k .addr .0
     → lie h (k ∷ ks) ≡ true → rise (k ∷ ks) ≡ true → leaveAfter h (k ∷ ks) ≡ true → walks h floor (k ∷ ks) ≡ true
-unfolding walks lie rise leaveAfter
+unfolding lie rise leaveAfter
 kept-walks h floor k [] f l r a =
     let q = all-each (holeRules h k) (and-left _ _ l) in
-    both (each-all (headRules h floor k) (omega (arith, leb-true, eqb-true, le-leb, eq-eqb))) (gap-behind h k ∙ a)
+    walks-cons h floor k [] (omega (arith, leb-true, eqb-true)) (unfold walks in gap-behind h k ∙ a)
 kept-walks h floor k (j ∷ js) f l r a =
     let q = all-each (holeRules h k) (and-left (all (holeRules h k)) (lie h (j ∷ js)) l) in
     let n = leb-true (behind k .0) (j .addr .0) (and-left (notAfter (behind k) (j .addr)) (rise (j ∷ js)) r) in
-    both (each-all (headRules h floor k) (omega (arith, leb-true, eqb-true, le-leb, eq-eqb)))
+    walks-cons h floor k (j ∷ js) (omega (arith, leb-true, eqb-true))
     (kept-walks h (behind k) j js n
     (and-right (all (holeRules h k)) (lie h (j ∷ js)) l)
     (and-right (notAfter (behind k) (j .addr)) (rise (j ∷ js)) r)
@@ -112,44 +151,52 @@ pub record Kept (h : Heap) (floor : Addr) (k : Hole) (ks : List Hole) : Type 0 w
 
 walks-kept : (h : Heap) (floor : Addr) (k : Hole) (ks : List Hole) → h .bottom .0 ≤ floor .0
     → walks h floor (k ∷ ks) ≡ true → Kept h floor k ks
-unfolding walks lie rise leaveAfter
+unfolding lie rise leaveAfter
 walks-kept h floor k [] b w =
-    let q = all-each (headRules h floor k) (and-left (all (headRules h floor k)) (ends h (behind k)) w) in
+    let q = walks-head h floor k [] w in
     record {
-      first = omega (arith, leb-true);
-      lies = both (each-all (holeRules h k) (omega (arith, leb-true, eqb-true, le-leb, eq-eqb))) refl;
+      first = q .above;
+      lies = both (each-all (holeRules h k) (omega (arith, le-leb, eq-eqb))) refl;
       rises = refl;
-      leaves = sym (gap-behind h k) ∙ and-right (all (headRules h floor k)) (ends h (behind k)) w;
+      leaves = sym (gap-behind h k) ∙ (unfold walks in walks-tail h floor k [] w);
     }
 walks-kept h floor k (j ∷ js) b w =
-    let q = all-each (headRules h floor k) (and-left (all (headRules h floor k)) (walks h (behind k) (j ∷ js)) w) in
-    let r = walks-kept h (behind k) j js (omega (arith, leb-true)) (and-right (all (headRules h floor k)) (walks h (behind k) (j ∷ js)) w) in
+    let q = walks-head h floor k (j ∷ js) w in
+    let r = walks-kept h (behind k) j js (omega arith) (walks-tail h floor k (j ∷ js) w) in
     record {
-      first = omega (arith, leb-true);
-      lies = both (each-all (holeRules h k) (omega (arith, leb-true, eqb-true, le-leb, eq-eqb))) (r .lies);
+      first = q .above;
+      lies = both (each-all (holeRules h k) (omega (arith, le-leb, eq-eqb))) (r .lies);
       rises = both (le-leb _ _ (r .first)) (r .rises);
       leaves = r .leaves;
     }
 
 -- the first floor keeps 0 or at least 16 bytes before the first hole
-floor-kept : (h : Heap) (k : Hole) (ks : List Hole) → leaveBefore h (k ∷ ks) ≡ true → floorOf h (k ∷ ks) .0 ≤ k .addr .0
-unfolding leaveBefore floorOf gap
-floor-kept h k ks e =
-    cases (same (h .bottom) (k .addr))
-    (λ q. let p = eqb-true (h .bottom .0) (k .addr .0) q in rw q (omega arith))
-    (λ q. rw q (leb-true _ _ (last (notAfter (plus (h .bottom) minSize) (k .addr)) (rw q at e))))
+pub gap-floor : (h : Heap) (k : Hole) (ks : List Hole) → Gap (h .bottom .0) (k .addr .0) → floorOf h (k ∷ ks) .0 ≤ k .addr .0
+unfolding floorOf
+gap-floor h k ks g =
+    by-test (λ (floor : Addr). floor .0 ≤ k .addr .0) (same (h .bottom) (k .addr)) (h .bottom) (plus (h .bottom) minSize)
+    (λ q. gap-le (h .bottom .0) (k .addr .0) g)
+    (λ q. gap-apart (h .bottom .0) (k .addr .0) g (eqb-false (h .bottom .0) (k .addr .0) q))
 
-kept-floor : (h : Heap) (k : Hole) (ks : List Hole) → floorOf h (k ∷ ks) .0 ≤ k .addr .0 → leaveBefore h (k ∷ ks) ≡ true
-unfolding leaveBefore floorOf gap
-kept-floor h k ks l =
-    cases (same (h .bottom) (k .addr))
-    (λ q. rw q refl)
-    (λ q. let n : plus (h .bottom) minSize .0 ≤ k .addr .0 = rw q at l in simp (q, le-leb _ _ n))
+floor-gap : (h : Heap) (k : Hole) (ks : List Hole) → floorOf h (k ∷ ks) .0 ≤ k .addr .0 → Gap (h .bottom .0) (k .addr .0)
+unfolding floorOf
+floor-gap h k ks =
+    by-test (λ (floor : Addr). floor .0 ≤ k .addr .0 → Gap (h .bottom .0) (k .addr .0)) (same (h .bottom) (k .addr)) (h .bottom)
+    (plus (h .bottom) minSize)
+    (λ q l. inl (eqb-true (h .bottom .0) (k .addr .0) q))
+    (λ q l. inr l)
+
+-- it is bottom or 16 bytes on
+by-floor : (P : Addr → Type 0) (h : Heap) (ks : List Hole) → P (h .bottom) → P (plus (h .bottom) minSize) → P (floorOf h ks)
+unfolding floorOf
+by-floor P h [] a b = b
+by-floor P h (k ∷ ks) a b = by-test P (same (h .bottom) (k .addr)) (h .bottom) (plus (h .bottom) minSize) (λ e. a) (λ e. b)
 
 pub floor-low : (h : Heap) (ks : List Hole) → h .bottom .0 ≤ floorOf h ks .0
-unfolding floorOf
-floor-low h [] = omega arith
-floor-low h (k ∷ ks) = cases (same (h .bottom) (k .addr)) (λ q. rw q (omega arith)) (λ q. rw q (omega arith))
+floor-low h ks = by-floor (λ floor. h .bottom .0 ≤ floor .0) h ks (omega arith) (omega arith)
+
+pub floor-high : (h : Heap) (ks : List Hole) → floorOf h ks .0 ≤ h .bottom .0 + minSize
+floor-high h ks = by-floor (λ floor. floor .0 ≤ h .bottom .0 + minSize) h ks (omega arith) (omega arith)
 
 -- the rules on the holes: the walk from the first floor, and the sum
 pub sound-walks : (h : Heap) → Fair h → (ks : List Hole)
@@ -162,31 +209,38 @@ sound-walks h f (k ∷ ks) =
     iff
     (λ e.
     let r = all-each (listRules h (k ∷ ks)) e in
-    both (kept-walks h (floorOf h (k ∷ ks)) k ks (floor-kept h k ks (r .1 .1 .0)) (r .0) (r .1 .0) (r .1 .1 .1 .0))
-    (r .1 .1 .1 .1 .0))
+    let first = gap-floor h k ks (gap-words (h .bottom) (k .addr) (r .1 .1 .0)) in
+    both (kept-walks h (floorOf h (k ∷ ks)) k ks first (r .0) (r .1 .0) (r .1 .1 .1 .0)) (r .1 .1 .1 .1 .0))
     (λ e.
     let w = and-left (walks h (floorOf h (k ∷ ks)) (k ∷ ks)) _ e in
     let r = walks-kept h (floorOf h (k ∷ ks)) k ks (floor-low h (k ∷ ks)) w in
+    let first = words-gap (h .bottom) (k .addr) (floor-gap h k ks (r .first)) in
     each-all (listRules h (k ∷ ks))
-    (r .lies, (r .rises, (kept-floor h k ks (r .first), (r .leaves, (and-right (walks h (floorOf h (k ∷ ks)) (k ∷ ks)) _ e, tt))))))
+    (r .lies, (r .rises, (first, (r .leaves, (and-right (walks h (floorOf h (k ∷ ks)) (k ∷ ks)) _ e, tt))))))
+
+module _ (h : Heap) (f : Fair h) (ks : List Hole) where
+  pub sound-walk : soundHoles h ks ≡ true → walks h (floorOf h ks) ks ≡ true
+  sound-walk e =
+      and-left (walks h (floorOf h ks) ks) (eqb (total ks + h .used) (size h)) (sym (sound-walks h f ks) ∙ e)
+
+  pub sound-sum : soundHoles h ks ≡ true → total ks + h .used ≡ size h
+  sound-sum e =
+      eqb-true (total ks + h .used) (size h)
+      (and-right (walks h (floorOf h ks) ks) (eqb (total ks + h .used) (size h)) (sym (sound-walks h f ks) ∙ e))
+
+  pub walk-sound : walks h (floorOf h ks) ks ≡ true → total ks + h .used ≡ size h → soundHoles h ks ≡ true
+  walk-sound w e = sound-walks h f ks ∙ both w (eq-eqb (total ks + h .used) (size h) e)
 
 -- ---- how many there are
 
 -- each hole takes at least 32 bytes, its distance from the next one with it
-pub walks-count : (h : Heap) (floor : Addr) (ks : List Hole) → walks h floor ks ≡ true
+walks-count : (h : Heap) (floor : Addr) (ks : List Hole) → walks h floor ks ≡ true
     → floor .0 + (2 * minSize) * length ks ≤ h .top .0 + minSize
-unfolding walks ends
-walks-count h floor [] e =
-    cases (notAfter floor (h .top))
-    (λ q. omega (arith, leb-true (floor .0) (h .top .0) q))
-    (λ q. omega (arith, eqb-true (floor .0) (h .top .0 + minSize) (last (same floor (plus (h .top) minSize)) (rw q at e))))
+walks-count h floor [] e = ends-cases h floor (unfold walks in e) (λ l. omega arith) (λ q. omega arith)
 walks-count h floor (k ∷ ks) e =
-    let q = all-each (headRules h floor k) (and-left (all (headRules h floor k)) (walks h (behind k) ks) e) in
-    let ih = walks-count h (behind k) ks (and-right (all (headRules h floor k)) (walks h (behind k) ks) e) in
-    omega (arith, leb-true)
+    let q = walks-head h floor k ks e in
+    omega (arith, walks-count h (behind k) ks (walks-tail h floor k ks e))
 
 -- so there are at most (size + 16) / 32 holes, rounded down
 pub sound-count : (h : Heap) → Fair h → (ks : List Hole) → soundHoles h ks ≡ true → length ks ≤ most h
-sound-count h f ks e =
-    let w = and-left (walks h (floorOf h ks) ks) _ (sym (sound-walks h f ks) ∙ e) in
-    omega (arith, walks-count h (floorOf h ks) ks w, floor-low h ks)
+sound-count h f ks e = omega (arith, walks-count h (floorOf h ks) ks (sound-walk h f ks e), floor-low h ks)

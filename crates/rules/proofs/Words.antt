@@ -9,8 +9,6 @@ use lib.Seq.{
   getD-set-same,
   getD-set-other,
   set-getD,
-  set-set,
-  set-comm,
   set-out,
   take-set-le,
   take-set-lt,
@@ -37,18 +35,6 @@ word-agree (suc n) m m′ i h =
     let low = h i (omega arith) (omega arith) in
     let high = word-agree n m m′ (i + 1) (λ j a b. h j (omega arith) (omega arith)) in
     cc
-
-pub word-lt : (n : ℕ) (m : List ℕ) (i : ℕ) → Bytes m → word n m i < 256 ^ n
-unfolding word
-word-lt zero m i s = omega arith
-word-lt (suc n) m i s =
-    let low = s i in
-    let high = word-lt n m (i + 1) s in
-    omega arith
-
--- at eight bytes, as a u64 is bounded
-pub word8-lt : (m : List ℕ) (i : ℕ) → Bytes m → word 8 m i < 2 ^ 64
-word8-lt m i s = word-lt 8 m i s
 
 -- ---- writing leaves the rest
 
@@ -119,35 +105,6 @@ store-same (suc n) m i s =
     let put = set-getD m i 0 in
     let rest = store-same n m (i + 1) s in
     cc
-
--- ---- two writes
-
--- a byte below a write may be set before it or after it
-set-store : (n : ℕ) (m : List ℕ) (i x j y : ℕ) → j < i → set (store n m i x) j y ≡ store n (set m j y) i x
-unfolding store
-set-store zero m i x j y h = refl
-set-store (suc n) m i x j y h =
-    set-store n (set m i (x % 256)) (i + 1) (x / 256) j y (omega arith)
-    ∙ ap (λ (l : List ℕ). store n l (i + 1) (x / 256)) (set-comm m i j (x % 256) y (omega arith))
-
--- of two writes at one index the last stays
-pub store-store : (n : ℕ) (m : List ℕ) (i x y : ℕ) → store n (store n m i x) i y ≡ store n m i y
-unfolding store
-store-store zero m i x y = refl
-store-store (suc n) m i x y =
-    let m₁ = set m i (x % 256) in
-    ap (λ (l : List ℕ). store n l (i + 1) (y / 256))
-    (set-store n m₁ (i + 1) (x / 256) i (y % 256) (omega arith)
-    ∙ ap (λ (l : List ℕ). store n l (i + 1) (x / 256)) (set-set m i (x % 256) (y % 256)))
-    ∙ store-store n (set m i (y % 256)) (i + 1) (x / 256) (y / 256)
-
--- two writes that do not overlap may change their order
-pub store-comm : (n k : ℕ) (m : List ℕ) (i x j y : ℕ) → j + k ≤ i → store k (store n m i x) j y ≡ store n (store k m j y) i x
-unfolding store
-store-comm n zero m i x j y h = refl
-store-comm n (suc k) m i x j y h =
-    ap (λ (l : List ℕ). store k l (j + 1) (y / 256)) (set-store n m i x j (y % 256) (omega arith))
-    ∙ store-comm n k (set m j (y % 256)) i x (j + 1) (y / 256) (omega arith)
 
 -- ---- a write, and a part of the bytes
 

@@ -1,5 +1,5 @@
--- The statements of the calls, one by one, each under the paper's sentence or the user's: of any behaviour b. Ours meets them
--- (proofs/Statements.antt), and two that meet them do the same.
+-- The demands, each as a statement under the user's sentence or the paper's. Those of the calls are of any behaviour b: ours meets them
+-- (proofs/Statements.antt), and two that meet them do the same. Those of runs are of ours. specs/Demands.antt gathers them.
 use mathlib.Core.Path.{_≡_}
 use mathlib.Core.Bool.{true, cond}
 use mathlib.Core.List.{List, [], _∷_, _++_, List·Memᴰ}
@@ -10,6 +10,7 @@ use lib.ListN.{length, getD}
 use Rattle.rules.specs.declared.Addr.{Addr}
 use Rattle.rules.specs.declared.Hole.{Hole}
 use Rattle.rules.specs.declared.Heap.{Heap}
+use Rattle.rules.specs.declared.Done.{Done}
 use Rattle.rules.specs.declared.Refusal.{Refusal}
 use Rattle.rules.specs.declared.Refusal.the-variants.{BadOpening, Opened, Unopened, OtherLength, NotSound, BadLayout, NoRoom, BadSpan, PastArena}
 use Rattle.rules.specs.declared.Answer.{Answer}
@@ -17,11 +18,12 @@ use Rattle.rules.specs.declared.Answer.the-variants.{Opening, Allocated,
 use Rattle.rules.specs.Round.{Below}
 use Rattle.rules.specs.Kinds.{addr, place}
 use Rattle.rules.specs.Holes.{hole}
+use Rattle.rules.specs.Sound.{unopened, holes}
 use Rattle.rules.specs.Calls.{Call, opening, allocate, free, extend, list, room, Outcome, refused, told, done}
-use Rattle.rules.specs.Answers.{numbers}
-use Rattle.rules.specs.Outcome.{Rows}
+use Rattle.rules.specs.Answers.{numbers, answerNumbers}
+use Rattle.rules.specs.Outcome.{Rows, after, Is, rowsAfter}
 use Rattle.rules.specs.InWords.{Valid, endOf, SoundNumbers, Sound, Hold, Rounds, Lies, RoomAt, Within, Vacant, Left, NoStart, NoLayout, NoSpan}
-use Rattle.rules.specs.Runs.{Fits, Reader}
+use Rattle.rules.specs.Runs.{Fits, Reader, Ask, calls, AllFit, Told, Kept, Run, Block, Box, start, comesTo, tells, ends, Honest}
 use Rattle.rules.specs.Behaviour.{Behaviour, Good}
 
 -- ---- "A heap is sound if": the test that the calls make is the paper's rule
@@ -323,3 +325,78 @@ pub record Same (b e : Behaviour) : Type 0 where
 
 abbrev pub Determined : Type 0
 Determined = (b e : Behaviour) → Statements b → Statements e → Same b e
+
+-- ---- demand 3: "Take two boxes opened alike and given the same calls. Their memories may differ anywhere at the start, and between calls
+-- anyone may write any bytes save the first 16 of each hole. [..] both boxes give the same answers, counts and holes, those that follow
+-- from the calls alone."
+
+abbrev pub FollowsFromCalls : Type 0
+FollowsFromCalls =
+    (asks : List Ask) (m : List ℕ) (ts : List Told) (h : Heap) (m′ : List ℕ) → AllFit asks → Run asks unopened m ts h m′
+    → (ts ≡ tells asks start) × (h ≡ ends asks start .heap) × (holes h m′ ≡ ends asks start .holes)
+
+abbrev pub SideBySide : Type 0
+SideBySide =
+    (asks : List Ask) (m₁ m₂ : List ℕ) (ts₁ ts₂ : List Told) (h₁ h₂ : Heap) (m₁′ m₂′ : List ℕ) → AllFit asks
+    → Run asks unopened m₁ ts₁ h₁ m₁′
+    → Run asks unopened m₂ ts₂ h₂ m₂′
+    → (ts₁ ≡ ts₂) × (h₁ ≡ h₂) × (holes h₁ m₁′ ≡ holes h₂ m₂′)
+
+-- no call of a run is refused with 5, and every heap of it is unopened or sound
+abbrev pub NeverUnsound : Type 0
+NeverUnsound =
+    (asks : List Ask) → AllFit asks
+    → ((ends asks start ≡ start) ⊎ Sound (ends asks start .heap) (ends asks start .holes))
+    × ((c : Call) (n : ℕ) → Fits c → comesTo c n (ends asks start) ≡ refused NotSound → ⊥)
+
+-- "If each accepted free names a block then held, with its own size and alignment [..] Holes and held blocks fill the heap without gap or
+-- overlap, and no call changes a byte of a block held before and after it."
+
+-- the address y lies in one of the blocks
+abbrev pub Occupied : List Block → ℕ → Type 0
+Occupied bs y = (b : Block) × List·Memᴰ b bs × (r : ℕ) × Rounds (b .size) r × Within (b .addr .0) r y
+
+pub record Tiles (b : Box) : Type 0 where
+  pub inside : (y : ℕ) → Vacant (b .holes) y ⊎ Occupied (b .held) y → (b .heap .bottom .0 ≤ y) × (y < b .heap .top .0)
+  pub gapless : (y : ℕ) → b .heap .bottom .0 ≤ y → y < b .heap .top .0 → Vacant (b .holes) y ⊎ Occupied (b .held) y
+  pub apart : (y : ℕ) → Vacant (b .holes) y → Occupied (b .held) y → ⊥
+  -- any two held blocks are disjoint
+  pub disjoint :
+      (front mid back : List Block) (c d : Block) → b .held ≡ front ++ (c ∷ (mid ++ (d ∷ back)))
+      → (y r q : ℕ) → Rounds (c .size) r → Rounds (d .size) q → Within (c .addr .0) r y → Within (d .addr .0) q y → ⊥
+
+abbrev pub HeldTile : Type 0
+HeldTile = (asks : List Ask) → AllFit asks → Honest asks start → Tiles (ends asks start)
+
+-- a held block's free is accepted
+abbrev pub HeldIsFreed : Type 0
+HeldIsFreed =
+    (asks : List Ask) (b : Block) → AllFit asks → Honest asks start → List·Memᴰ b (ends asks start .held)
+    → (h′ : Heap) × (ks : List Hole) × (r : ℕ)
+    × Rounds (b .size) r
+    × (comesTo (free (b .addr) (b .size) (b .align)) (ends asks start .heap .len) (ends asks start)
+    ≡ done (Freed r (ends asks start .heap .used - r)) h′ ks)
+
+-- no call changes a byte of a block held before and after it
+abbrev pub HeldUntouched : Type 0
+HeldUntouched =
+    (asks : List Ask) (m : List ℕ) (ts : List Told) (h : Heap) (w m′ : List ℕ) (c : Call) (rows : Rows) → AllFit asks → Fits c
+    → Run asks unopened m ts h m′
+    → Kept h m′ w
+    → Honest (asks ++ (calls c rows (length w) ∷ [])) start
+    → (b : Block)
+    → List·Memᴰ b (ends asks start .held)
+    → List·Memᴰ b (ends (asks ++ (calls c rows (length w) ∷ [])) start .held)
+    → (r y : ℕ)
+    → Rounds (b .size) r
+    → Within (b .addr .0) r y
+    → getD (after c h w .arena) (y - h .base .0) 0 ≡ getD w (y - h .base .0) 0
+
+-- ---- nothing is loose: two outcomes that meet a call's promise are equal, to the number, the answer, the heap, the arena and the rows
+
+abbrev pub NothingLoose : Type 0
+NothingLoose =
+    (c : Call) (h : Heap) (m : List ℕ) (r : Rows) (d e : Done) (w v : List ℕ) (s t : Rows) → Is (after c h m) d w → Is (after c h m) e v
+    → s ≡ rowsAfter c h m r
+    → t ≡ rowsAfter c h m r
+    → (answerNumbers (d .answer) ≡ answerNumbers (e .answer)) × (d ≡ e) × (w ≡ v) × (s ≡ t)

@@ -7,7 +7,7 @@ use Prim.Native.Nat.{ℕ, suc, _+_, _≤_, _<_}
 use native.Mathlib.Omega.{arith}
 use denote.Enum.Declared.{tagOf}
 use types.Run.{OneOf}
-use borrow.Author.Tests.{eqb-true, ltb-true, ltb-false, lt-ltb, le-ltb}
+use borrow.Author.Tests.{ltb-true, ltb-false, lt-ltb, le-ltb}
 use Rattle.rules.specs.Fixed.{minSize}
 use Rattle.rules.specs.Tests.{all}
 use Rattle.rules.specs.Kinds.{place, placeOf, none, before}
@@ -20,6 +20,7 @@ use Rattle.rules.specs.declared.Hole.{Hole}
 use Rattle.rules.specs.declared.Heap.{Heap}
 use Rattle.rules.proofs.Cases.{by-test}
 use Rattle.rules.proofs.Walk.{Fair, headRules, behind, ends, walks}
+use Rattle.rules.proofs.Freed.{Past}
 use Rattle.cursor.specs.declared.Cursor.{Cursor}
 use Rattle.spotting.specs.declared.Near.{Near}
 use Rattle.cursor.specs.declared.Step.{Step}
@@ -29,8 +30,7 @@ use Rattle.spotting.specs.declared.Spot.the-variants as spot
 use Rattle.cursor.specs.Walk.{Enough, startOf, lastOf, stepOf, cursorAt}
 use Rattle.spotting.specs.Nearest.{nearAt, stoppedNear, nearOf}
 use Rattle.cursor.proofs.Step as Steps
-use Rattle.cursor.proofs.OneStep.{step-end, no-hole}
-use Rattle.cursor.proofs.Turn.{Turn, StartsBad, turn-at, turn-end, turn-bad, start}
+use Rattle.cursor.proofs.Turn.{Turn, StartsBad, turn-at, turn-goes, turn-stops, start}
 use Rattle.cursor.proofs.Passed.{lastPlace, lastFloor}
 
 -- ---- the turns of the loop
@@ -79,10 +79,8 @@ module _ (h : Heap) (x : Addr) where
 
 -- a turn of the loop, by the step at its place
 module _ {h : Heap} {x : Addr} {m : List ℕ} {cursor : Cursor} {floor : Addr} {total : ℕ} (s : Nearing h x m cursor floor total) where
-  -- what the heads that are left answer, the whole search does
-  answers : {ks : List Hole} {r : Spot} → holesFrom (s .left) (h .base) m (cursor .hole) ≡ ks
-      → nearOf h x floor (cursor .prev) total ks ≡ r → r ≡ nearOf h x (startOf h) none 0 (holes h m)
-  answers l e = sym (ap (nearOf h x floor (cursor .prev) total) l ∙ e) ∙ s .same
+  abbrev onward : List Hole → Spot
+  onward = nearOf h x floor (cursor .prev) total
 
   module _ {st : Step} (is : st ≡ stepOf h m (cursor .hole) floor) where
     pub near-turn : {k : Hole} {q : Place} → st ≡ step.At k q → Turn h m (cursor .hole) floor (s .left) k q
@@ -92,7 +90,8 @@ module _ {h : Heap} {x : Addr} {m : List ℕ} {cursor : Cursor} {floor : Addr} {
         → spot.Between (nearAt (cursor .prev) (cursor .hole) floor total) ≡ nearOf h x (startOf h) none 0 (holes h m)
     neared {k} {q} e l =
         let t = near-turn e in
-        answers (t .list) (near-found h x floor (cursor .prev) total k _ (t .place) (t .rules) l)
+        turn-goes h m (cursor .hole) floor (s .left) onward t (s .same)
+        (near-found h x floor (cursor .prev) total k _ (t .place) (t .rules) l)
 
     pub nearing-on : {k : Hole} {q : Place} → st ≡ step.At k q → k .addr .0 ≤ x .0
         → Nearing h x m (cursorAt (cursor .hole) q) (behind k) (total + k .size)
@@ -101,7 +100,9 @@ module _ {h : Heap} {x : Addr} {m : List ℕ} {cursor : Cursor} {floor : Addr} {
         record {
           left = t .rest;
           enough = t .enough;
-          same = answers (t .list) (near-on h x floor (cursor .prev) total k _ (t .place) (t .rules) l);
+          same =
+              turn-goes h m (cursor .hole) floor (s .left) onward t (s .same)
+              (near-on h x floor (cursor .prev) total k _ (t .place) (t .rules) l);
           summed = omega arith;
           low = t .low;
         }
@@ -111,14 +112,11 @@ module _ {h : Heap} {x : Addr} {m : List ℕ} {cursor : Cursor} {floor : Addr} {
         → stoppedNear st (nearAt (cursor .prev) (cursor .hole) floor total) ≡ nearOf h x (startOf h) none 0 (holes h m)
     unfolding stoppedNear
     near-stops o =
-        no-hole st o
-        (λ e.
-        let t = turn-end h m (cursor .hole) floor (s .left) (sym is ∙ e) in
-        let z : cursor .hole .0 ≡ none .0 = eqb-true (cursor .hole .0) (none .0) (step-end h m (cursor .hole) floor (sym is ∙ e)) in
-        rw (e, z) (answers (t .0) (near-end h x floor (cursor .prev) total (t .1))))
-        (λ e.
-        let t = turn-bad h m (cursor .hole) floor (s .left) (s .enough) (s .low) (sym is ∙ e) in
-        rw e (answers refl (near-broken h x floor (cursor .prev) total _ t)))
+        turn-stops h m (cursor .hole) floor (s .left) onward (s .enough) (s .low) st is o
+        (λ r. stoppedNear r (nearAt (cursor .prev) (cursor .hole) floor total))
+        (λ z e. rw z (sym (near-end h x floor (cursor .prev) total e)))
+        (λ ks b. sym (near-broken h x floor (cursor .prev) total ks b))
+        ∙ s .same
 
 -- ---- what the answer says of the list
 
@@ -129,8 +127,7 @@ AllFrom x (k ∷ ks) = (k .addr .0 ≤ x .0) × AllFrom x ks
 
 -- the first hole, where there is one, lies beyond the address
 abbrev pub Beyond : Addr → List Hole → Type 0
-Beyond x [] = Unit {0}
-Beyond x (k ∷ ks) = x .0 < k .addr .0
+Beyond x ks = Past (x .0) ks
 
 module _ (h : Heap) (x : Addr) where
   -- the holes before the address, and those beyond it

@@ -27,8 +27,8 @@ use Rattle.rules.specs.declared.Heap.{Heap}
 use Rattle.rules.specs.declared.Done.{Done}
 use Rattle.rules.specs.declared.Refusal.the-variants.{NotSound}
 use Rattle.rules.proofs.Cases.{cases, by-test}
-use Rattle.rules.proofs.Walk.{Fair, headRules, behind, ends, walks, sound-walks}
-use Rattle.rules.proofs.Clear.{total-append}
+use Rattle.rules.proofs.Walk.{Fair, headRules, rules-keep, behind, ends, walks, sound-walks}
+use Rattle.rules.proofs.Sums.{total-append}
 use Rattle.rules.proofs.Decide.{sifted}
 use Rattle.cursor.specs.Walk.{Enough, startOf, lastOf, walkedOf}
 use Rattle.fitting.specs.FirstFit.{stoppedSearch, searchOf}
@@ -38,7 +38,6 @@ use Rattle.cursor.specs.declared.Walked.{Walked}
 use Rattle.fitting.specs.declared.Search.{Search}
 use Rattle.fitting.specs.declared.Search.the-variants as search
 use Rattle.fitting.proofs.Search as Searches
-use Rattle.cursor.proofs.OneStep.{rules-keep}
 use Rattle.cursor.proofs.Turn.{start}
 use Rattle.fitting.proofs.ToFit.{Fits, fit-bad, fit-full, fit-at}
 use Rattle.hole_list.specs.Settled.{addsUp}
