@@ -19,7 +19,7 @@ use Rattle.rules.specs.declared.Hole.{Hole}
 use Rattle.rules.specs.declared.Heap.{Heap}
 use Rattle.rules.proofs.Cases.{cases}
 use Rattle.rules.proofs.Walk.{Fair, headRules, rules-keep, behind, walks, sound-walks}
-use Rattle.rules.proofs.Sums.{total-append}
+use Rattle.rules.proofs.Totals.{total-append}
 use Rattle.cursor.specs.Walk.{Enough, startOf, walkedOf}
 use Rattle.spotting.specs.Nearest.{nearOf}
 use Rattle.spotting.specs.declared.Near.{Near}

@@ -21,7 +21,7 @@ use Rattle.rules.proofs.Cases.{cases, by-eq}
 use Rattle.rules.proofs.Powers.{power-pos}
 use Rattle.rules.proofs.Walk.{Fair, behind, walks, floorOf, walks-head, walks-tail, walks-cons, sound-walk, sound-sum, walk-sound}
 use Rattle.rules.proofs.Floors.{walks-lower, walks-first, raised-walk}
-use Rattle.rules.proofs.Sums.{used-total}
+use Rattle.rules.proofs.Totals.{used-total}
 use Rattle.rules.proofs.Used.{find-splits, candidate-low, suits-fits}
 use Rattle.rules.proofs.Suits.{candidate-eight, suits-lies}
 

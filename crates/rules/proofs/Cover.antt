@@ -12,7 +12,7 @@ use Rattle.rules.specs.Holes.{end}
 use Rattle.rules.specs.Free.{joined}
 use Rattle.rules.specs.InWords.{Within, Vacant}
 use Rattle.rules.proofs.Cases.{by-le, some-first, some-later}
-use Rattle.rules.proofs.Sums.{added, Adds}
+use Rattle.rules.proofs.Totals.{added, Adds}
 
 -- the address y lies in the hole k
 abbrev pub Inside : Hole → ℕ → Type 0

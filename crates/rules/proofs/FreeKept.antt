@@ -20,7 +20,7 @@ use Rattle.rules.specs.InWords.{Gap}
 use Rattle.rules.proofs.Walk.{Fair, behind, walks, floorOf, walks-head, walks-tail, ends-cases, sound-walk, sound-sum, walk-sound}
 use Rattle.rules.proofs.Floors.{raised-walk}
 use Rattle.rules.proofs.Rises.{sound-rises}
-use Rattle.rules.proofs.Sums.{freed-total}
+use Rattle.rules.proofs.Totals.{freed-total}
 use Rattle.rules.proofs.Clear.{Clear, Follows, passed, one-before, clear-room}
 use Rattle.rules.proofs.FreedWalk.{Span, floor-walks}
 

@@ -31,7 +31,7 @@ use Rattle.rules.proofs.Passes.{Passes, by-decided}
 use Rattle.rules.proofs.Used.{find-splits}
 use Rattle.rules.proofs.Suits.{candidate-eight, found-lies}
 use Rattle.rules.proofs.SoundKept.{passed-stands}
-use Rattle.rules.proofs.Sums.{added, freed-added, used-added}
+use Rattle.rules.proofs.Totals.{added, freed-added, used-added}
 use Rattle.rules.proofs.Cover.{once, cover, once-behind, joined-once, once-adds}
 use Rattle.rules.proofs.Tiling.{span, spans, range, Filled}
 

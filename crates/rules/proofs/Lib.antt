@@ -17,7 +17,7 @@ pub mod Walk
 pub mod Floors
 pub mod Rises
 -- what adds up over the holes
-pub mod Sums
+pub mod Totals
 -- the used hole
 pub mod Used
 -- the freed span: where it goes and what it joins, what stands against it

@@ -16,7 +16,7 @@ use Rattle.rules.specs.Runs.{Block, Box}
 use Rattle.rules.specs.Statements.{Occupied, Tiles}
 use Rattle.rules.proofs.Cases.{by-le}
 use Rattle.rules.proofs.SoundWords.{rounded-rounds, rounds-rounded}
-use Rattle.rules.proofs.Sums.{added, added-append}
+use Rattle.rules.proofs.Totals.{added, added-append}
 use Rattle.rules.proofs.Cover.{Inside, once, cover, once-in, once-inside, once-most, cover-member, cover-two, vacant-cover, cover-vacant}
 
 -- the stretches cover each address of the range once, and no other

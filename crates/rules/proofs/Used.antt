@@ -18,7 +18,7 @@ use Rattle.rules.proofs.Cases.{by-test, and-left, and-right}
 use Rattle.rules.proofs.Gaps.{gap-words, gap-le, gap-apart}
 use Rattle.rules.proofs.Multiples.{up-is}
 use Rattle.rules.proofs.Rises.{Rises, rises-widen, endOr, rises-front, rises-back, rises-append}
-use Rattle.rules.proofs.Sums.{total-append}
+use Rattle.rules.proofs.Totals.{total-append}
 
 -- ---- the first suiting hole
 

@@ -7,7 +7,7 @@ use Rattle.rules.specs.declared.Hole.{Hole}
 use Rattle.rules.specs.Free.{freed}
 use Rattle.rules.specs.InWords.{Vacant}
 use Rattle.rules.proofs.Cases.{by-le}
-use Rattle.rules.proofs.Sums.{freed-added}
+use Rattle.rules.proofs.Totals.{freed-added}
 use Rattle.rules.proofs.Cover.{Inside, cover, once-in, once-inside, once-adds, vacant-cover, cover-vacant}
 
 pub freed-vacates : (g : Hole) (ks : List Hole) (y : ℕ)

@@ -28,7 +28,7 @@ use Rattle.rules.specs.declared.Done.{Done}
 use Rattle.rules.specs.declared.Refusal.the-variants.{NotSound}
 use Rattle.rules.proofs.Cases.{cases, by-test}
 use Rattle.rules.proofs.Walk.{Fair, headRules, rules-keep, behind, ends, walks, sound-walks}
-use Rattle.rules.proofs.Sums.{total-append}
+use Rattle.rules.proofs.Totals.{total-append}
 use Rattle.rules.proofs.Decide.{sifted}
 use Rattle.cursor.specs.Walk.{Enough, startOf, lastOf, walkedOf}
 use Rattle.fitting.specs.FirstFit.{stoppedSearch, searchOf}
