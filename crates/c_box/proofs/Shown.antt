@@ -21,3 +21,7 @@ module _ (x : Call) (ws m : List ℕ) {h : Heap} (loaded : h ≡ heapOf ws) wher
       {a : Answer} {two : List ℕ} {r : ℕ} → a ≡ after x h m .answer → Tells a r two →
       Tells (after x (heapOf ws) m .answer) r two
   reported e t = rw (← loaded, ← e) t
+
+-- what else is read off a heap: a reader's value, the rows of a list
+pub read-of : {A : Type 0} (f : Heap → A) (ws : List ℕ) {h : Heap} {r : A} → h ≡ heapOf ws → r ≡ f h → r ≡ f (heapOf ws)
+read-of f ws loaded e = rw (← loaded) e

@@ -1,5 +1,7 @@
 -- `c_box::lantern_bottom` meets its contract: it is `numbers::bottom` on the heap that the words say. Assumes nothing.
 use borrow.Author.Needs.{needs}
+use Rattle.rules.specs.Readers.{bottomOf}
+use Rattle.c_box.proofs.Shown.{read-of}
 use Rattle.c_box.proofs.lantern_bottom.Statement.{statement}
 use Rattle.c_box.proofs.lantern_bottom.Tie as tie
 
@@ -10,7 +12,7 @@ bottom-requires : tie.Need-bottom-requires
 bottom-requires c κs = search needs
 
 returns : tie.Need-returns
-returns c = cc
+returns c = rw (read-of bottomOf (c .before .before .args .heap .now) (c .before .load .ensures) (c .bottom .ensures))
 
 pub lantern-bottom-spec : {M : Type 1} → statement M
 lantern-bottom-spec = tie.close (tie.spec load-requires bottom-requires returns)

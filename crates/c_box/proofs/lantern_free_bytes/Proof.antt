@@ -1,5 +1,7 @@
 -- `c_box::lantern_free_bytes` meets its contract: it is `numbers::free_bytes` on the heap that the words say. Assumes nothing.
 use borrow.Author.Needs.{needs}
+use Rattle.rules.specs.Readers.{freeOf}
+use Rattle.c_box.proofs.Shown.{read-of}
 use Rattle.c_box.proofs.lantern_free_bytes.Statement.{statement}
 use Rattle.c_box.proofs.lantern_free_bytes.Tie as tie
 
@@ -10,7 +12,7 @@ free-bytes-requires : tie.Need-free-bytes-requires
 free-bytes-requires c κs = search needs
 
 returns : tie.Need-returns
-returns c = cc
+returns c = read-of freeOf (c .before .before .args .heap .now) (c .before .load .ensures) (c .free-bytes .ensures)
 
 pub lantern-free-bytes-spec : {M : Type 1} → statement M
 lantern-free-bytes-spec = tie.close (tie.spec load-requires free-bytes-requires returns)

@@ -1,7 +1,9 @@
 -- `c_box::lantern_list` meets its contract: it is `heap::list` on the heap that the words say, and on the same rows. Assumes nothing.
 use borrow.Author.Needs.{needs}
 use Rattle.rules.specs.Calls.{list}
-use Rattle.c_box.proofs.Shown.{reported}
+use Rattle.rules.specs.Outcome.{rowsAfter}
+use Rattle.reports.specs.Reports.{rows}
+use Rattle.c_box.proofs.Shown.{reported, read-of}
 use Rattle.c_box.proofs.lantern_list.Statement.{statement}
 use Rattle.c_box.proofs.lantern_list.Tie as tie
 
@@ -25,8 +27,10 @@ returns c =
     let k = c .before .before .before .before .before in
     let l = k .before .before .before in
     let s = l .before .before .before .before .before .args in
-    let e = k .list .ensures in
-    (reported list (s .heap .now) (s .arena .now) (l .load .ensures) (e .0) (c .tell .ensures), cc)
+    let e = k .list .ensures in (
+      reported list (s .heap .now) (s .arena .now) (l .load .ensures) (e .0) (c .tell .ensures),
+      read-of (λ h. rowsAfter list h (s .arena .now) (rows (s .addrs .now) (s .sizes .now))) (s .heap .now) (l .load .ensures) (e .1),
+    )
 
 pub lantern-list-spec : {M : Type 1} → statement M
 lantern-list-spec =

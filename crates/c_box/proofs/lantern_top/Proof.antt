@@ -1,5 +1,7 @@
 -- `c_box::lantern_top` meets its contract: it is `numbers::top` on the heap that the words say. Assumes nothing.
 use borrow.Author.Needs.{needs}
+use Rattle.rules.specs.Readers.{topOf}
+use Rattle.c_box.proofs.Shown.{read-of}
 use Rattle.c_box.proofs.lantern_top.Statement.{statement}
 use Rattle.c_box.proofs.lantern_top.Tie as tie
 
@@ -10,7 +12,7 @@ top-requires : tie.Need-top-requires
 top-requires c κs = search needs
 
 returns : tie.Need-returns
-returns c = cc
+returns c = rw (read-of topOf (c .before .before .args .heap .now) (c .before .load .ensures) (c .top .ensures))
 
 pub lantern-top-spec : {M : Type 1} → statement M
 lantern-top-spec = tie.close (tie.spec load-requires top-requires returns)
