@@ -12,7 +12,7 @@ use Rattle.rules.specs.declared.Addr.{Addr}
 use Rattle.rules.specs.declared.Place.{Place}
 use Rattle.rules.specs.declared.Hole.{Hole}
 use Rattle.rules.specs.declared.Heap.{Heap}
-use Rattle.rules.proofs.Rises.{Rises, rises-le}
+use Rattle.rules.proofs.Rises.{Rises}
 use Rattle.rules.proofs.Lists.{firstOr, Holds}
 use Rattle.rules.proofs.Relink.{link}
 use Rattle.cursor.proofs.Passed.{lastPlace}

@@ -4,7 +4,7 @@ use Prim.Native.Nat.{suc, _+_, _-_, _^_, _≤_, _<_}
 use native.Mathlib.Omega.{arith}
 use native.Mathlib.Nat.{one-le-pow}
 use lib.ListN.{length, take, drop}
-use Rattle.reading.specs.Frames.{digits, value, numberAt}
+use Rattle.reading.specs.Frames.{value, numberAt}
 use Rattle.reading.proofs.Digits.{digit-below, value-on, value-end, more-digits, sixteen-fit}
 use borrow.Author.Needs.{needs}
 use Rattle.reading.proofs.number.Statement.{statement}
