@@ -1,7 +1,7 @@
 -- What stands against a span, seen from it: the holes before it and behind it that keep clear of it. Assumes nothing.
 use mathlib.Core.Path.{sym, _∙_}
 use mathlib.Core.List.{List, [], _∷_, _++_}
-use Prim.Native.Nat.{ℕ, _+_, _-_, _≤_}
+use Prim.Native.Nat.{ℕ, _≤_}
 use native.Mathlib.Omega.{arith}
 use Rattle.rules.specs.Fixed.{minSize}
 use Rattle.rules.specs.Kinds.{addr}

@@ -1,6 +1,6 @@
 -- Runs of calls: on memories, with writes between the calls; and what follows from the calls alone. Definitions only.
 use mathlib.Core.Path.{_≡_}
-use mathlib.Core.Bool.{Bool, true, cond}
+use mathlib.Core.Bool.{Bool, cond}
 use mathlib.Core.List.{List, [], _∷_, List·Memᴰ}
 use Prim.Native.Nat.{ℕ, _+_, _-_, _^_, _≤_, _<_}
 use lib.Dec.{eqb}
@@ -15,7 +15,7 @@ use Rattle.rules.specs.Kinds.{same, number}
 use Rattle.rules.specs.Sound.{unopened, holes}
 use Rattle.rules.specs.Readers.{bottomOf, topOf, sizeOf, usedOf, freeOf}
 use Rattle.rules.specs.Calls.{Call, opening, allocate, free, extend, list, room, Outcome, refused, told, done}
-use Rattle.rules.specs.Outcome.{decided, After, after, Rows, leavesRows, rowsAfter}
+use Rattle.rules.specs.Outcome.{decided, after, Rows, leavesRows, rowsAfter}
 
 -- ---- what is asked, and what is told
 

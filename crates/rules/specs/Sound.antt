@@ -1,6 +1,6 @@
 -- When a heap is sound: the rules on its numbers, and the rules on its holes. Definitions only.
 use mathlib.Core.List.{List, [], _∷_}
-use mathlib.Core.Bool.{Bool, true, false, _&&_, cond}
+use mathlib.Core.Bool.{Bool, true, _&&_, cond}
 use Prim.Native.Nat.{ℕ, suc, _+_, _*_, _/_, _%_}
 use lib.Dec.{eqb, leb}
 use Rattle.rules.specs.declared.Addr.{Addr}

@@ -1,7 +1,7 @@
 -- `printing::put_hex` meets its contract: the digits left to write, written into the bytes as they are, always give the bytes wanted.
 -- Assumes nothing.
 use mathlib.Core.Path.{_≡_, refl, sym, _∙_}
-use Prim.Native.Nat.{_+_, _-_, _≤_}
+use Prim.Native.Nat.{_+_, _≤_}
 use native.Mathlib.Omega.{arith}
 use lib.ListN.{length, length-set}
 use Rattle.printing.specs.Lines.{hex}
