@@ -18,7 +18,7 @@ use Rattle.rules.proofs.Reports.{over-length}
 use Rattle.frame.proofs.Spoken.{shown, spoken-is, listing}
 
 module _ (h : Heap) (m : List ℕ) {n : ℕ} (is : n ≡ answerNumbers (after list h m .answer) .one) where
-  pub listed-count : n ≡ length (shown (outcome list h m))
+  listed-count : n ≡ length (shown (outcome list h m))
   unfolding after
   listed-count = is ∙ listing h m .count
 

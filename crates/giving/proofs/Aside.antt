@@ -9,9 +9,9 @@ use Rattle.rules.specs.Holes.{end}
 use Rattle.rules.specs.Sound.{size}
 use Rattle.rules.specs.Free.{overlaps, eightToHole}
 use Rattle.rules.specs.declared.Hole.{Hole}
-use Rattle.rules.proofs.Cases.{by-le, apart, or-left, or-right}
+use Rattle.rules.proofs.Cases.{or-left, or-right}
 use Rattle.rules.proofs.Rises.{Rises, rises-widen, endOr}
-use Rattle.rules.proofs.Clear.{Clear, Follows, ClearBefore, ClearBehind, overlaps-append, eight-append, overlaps-at, eight-before, eight-behind}
+use Rattle.rules.proofs.Clear.{Clear, Follows, clear-rest, clear-follows, clear-followed, ClearBefore, ClearBehind, overlaps-append, eight-append}
 use Rattle.spotting.proofs.ToSpan.{AllFrom, Beyond}
 
 pub clear-split : (g : Hole) (front back : List Hole) → Clear g (front ++ back) → Clear g front × Clear g back
@@ -25,24 +25,17 @@ clear-split g front back c =
 -- the last hole that starts at or before a span ends there too, if it neither overlaps it nor leaves 8 bytes
 before-clear : (g k : Hole) (ks : List Hole) → minSize ≤ g .size → AllFrom (g .addr) (k ∷ ks) → Clear g (k ∷ ks)
     → Follows (g .addr .0) (endOr (end k .0) ks)
-before-clear g k [] n a c = (
-  by-le (end k .0) (g .addr .0) (λ l. l) (λ l. apart (overlaps-at g k [] [] l (omega arith)) (c .0)),
-  λ e. apart (eight-behind g k [] [] e) (c .1),
-)
-before-clear g k (j ∷ js) n a c = before-clear g j js n (a .1) (clear-split g (k ∷ []) (j ∷ js) c .1)
+before-clear g k [] n a c = clear-followed g k [] c n (a .0)
+before-clear g k (j ∷ js) n a c = before-clear g j js n (a .1) (clear-rest g k (j ∷ js) c)
 
 pub clear-before : (g : Hole) (front : List Hole) → minSize ≤ g .size → AllFrom (g .addr) front → Clear g front → ClearBefore g front
 clear-before g [] n a c = tt
 clear-before g (k ∷ ks) n a c = before-clear g k ks n a c
 
 -- the first that starts behind it starts where it ends, or further on
-pub clear-behind : (lo hi : ℕ) (g : Hole) (back : List Hole) → Rises lo hi back → minSize ≤ g .size → Beyond (g .addr) back → Clear g back
-    → ClearBehind g back
-clear-behind lo hi g [] r n b c = tt
-clear-behind lo hi g (k ∷ ks) r n b c = (
-  by-le (end g .0) (k .addr .0) (λ l. l) (λ l. apart (overlaps-at g k [] ks (omega arith) l) (c .0)),
-  λ e. apart (eight-before g k [] ks e) (c .1),
-)
+pub clear-behind : (lo hi : ℕ) (g : Hole) (back : List Hole) → Rises lo hi back → Beyond (g .addr) back → Clear g back → ClearBehind g back
+clear-behind lo hi g [] r b c = tt
+clear-behind lo hi g (k ∷ ks) r b c = clear-follows g k ks c (r .1) b
 
 -- so the holes before it end where it starts, or earlier
 pub before-end : (lo : ℕ) (g : Hole) (front : List Hole) → lo ≤ g .addr .0 → ClearBefore g front → endOr lo front ≤ g .addr .0

@@ -26,7 +26,7 @@ use Rattle.joining.proofs.Neighbours.{Sought, lies}
 use Rattle.giving.proofs.Spans.{around, may-free, free-span, used-enough}
 
 -- a heap with another number of used bytes; the rest stays
-abbrev pub withUsed : Heap → ℕ → Heap
+abbrev withUsed : Heap → ℕ → Heap
 withUsed h used =
     record {
       base = h .base;

@@ -1,22 +1,22 @@
 -- A span between its neighbours: the tests on these two alone decide refusal 8 on all the holes of a sound heap. Assumes nothing.
-use mathlib.Core.Path.{_≡_, sym, ap, _∙_}
+use mathlib.Core.Path.{_≡_, ap}
 use mathlib.Core.Bool.{true, false, not}
 use mathlib.Core.List.{List, [], _∷_, _++_}
 use Prim.Native.Nat.{ℕ, _+_, _-_, _^_, _≤_, _<_}
 use native.Mathlib.Omega.{arith}
-use borrow.Author.Tests.{ltb-false, eqb-true, eqb-false, not-true, not-false, le-ltb, ne-eqb}
+use borrow.Author.Tests.{not-true, not-false, le-ltb, ne-eqb}
 use Rattle.rules.specs.Fixed.{minSize, grain}
 use Rattle.rules.specs.Tests.{any}
 use Rattle.rules.specs.Kinds.{addr, none, multipleOf}
-use Rattle.rules.specs.Holes.{end, total}
+use Rattle.rules.specs.Holes.{end}
 use Rattle.rules.specs.Sound.{size, soundHoles}
 use Rattle.rules.specs.Refusals.{refusal8}
 use Rattle.rules.specs.declared.Hole.{Hole}
 use Rattle.rules.specs.declared.Heap.{Heap}
 use Rattle.rules.proofs.Cases.{iff, and-left, and-right, both, all-each, each-all, any-each, each-any}
-use Rattle.rules.proofs.Walk.{Fair, behind, walks, floorOf, sound-walks}
+use Rattle.rules.proofs.Walk.{Fair, behind, sound-sum}
 use Rattle.rules.proofs.Rises.{Rises, rises-le, rises-widen, endOr, rises-front, rises-back, sound-rises}
-use Rattle.rules.proofs.Clear.{Clear, Follows, ClearBefore, ClearBehind, clear-none, clear-room}
+use Rattle.rules.proofs.Clear.{Clear, Follows, passed, ClearBefore, ClearBehind, clear-none, clear-room}
 use Rattle.cursor.specs.Walk.{startOf}
 use Rattle.spotting.specs.declared.Near.{Near}
 use Rattle.spotting.proofs.ToSpan.{Lies}
@@ -133,10 +133,10 @@ module _
       unfolding mayFree insideOf betweenOf
       none-freed e =
           let q = any-each (refusal8 h ks g align) e in
-          let o : Clear g ks = (q .1 .1 .1 .1 .0, q .1 .1 .1 .1 .1 .0) in
-          let c = clear-split g (lies .front) (lies .back) (rw (lies .list) at o) in
+          let p = passed h ks g align e in
+          let c = clear-split g (lies .front) (lies .back) (rw (lies .list) at (p .clear)) in
           let d = clear-before g (lies .front) least (lies .before) (c .0) in
-          let b = clear-behind (endOr (h .bottom .0) (lies .front)) (h .top .0) g (lies .back) back-rises least (lies .beyond) (c .1) in
+          let b = clear-behind (endOr (h .bottom .0) (lies .front)) (h .top .0) g (lies .back) back-rises (lies .beyond) (c .1) in
           each-all
           (multipleOf grain (g .addr) ∷ multipleOf align (g .addr) ∷ insideOf h g ∷ betweenOf h near g ∷ []) (
             not-false (multipleOf grain (g .addr)) (q .0),
@@ -144,10 +144,8 @@ module _
               not-false (multipleOf align (g .addr)) (q .1 .0),
               (
                 both
-                    (follows-gap (h .bottom) (g .addr)
-                    (ltb-false (g .addr .0) (h .bottom .0) (q .1 .1 .0), eqb-false (h .bottom .0 + grain) (g .addr .0) (q .1 .1 .1 .1 .1 .1 .0)))
-                    (follows-gap (end g) (h .top)
-                    (ltb-false (h .top .0) (end g .0) (q .1 .1 .1 .0), eqb-false (end g .0 + grain) (h .top .0) (q .1 .1 .1 .1 .1 .1 .1 .0))),
+                    (follows-gap (h .bottom) (g .addr) (p .low))
+                    (follows-gap (end g) (h .top) (p .high)),
                 (
                   both
                       (clear-keeps h near g (h .bottom .0) (h .top .0) (fair .bottom) high (startOf h) (lies .front) (lies .prev) (lies .floor) d)
@@ -186,7 +184,6 @@ module _
       pub used-enough : mayFree h near g align ≡ true → g .size ≤ h .used
       used-enough e =
           let p = passes align e in
-          let s = eqb-true (total ks + h .used) (size h)
-          (and-right (walks h (floorOf h ks) ks) _ (sym (sound-walks h fair ks) ∙ sound)) in
+          let s = sound-sum h fair ks sound in
           let r = clear-room (h .bottom .0) (h .top .0) g ks (sound-rises h fair ks sound) (p .low .0) (p .inside .0) (clears p .0) in
           omega arith

@@ -36,9 +36,10 @@ use Rattle.spotting.specs.declared.Spot.the-variants as spot
 use Rattle.cursor.proofs.Passed.{lastPlace}
 use Rattle.hole_list.specs.Settled.{Ready, Settled}
 use Rattle.joining.specs.Span.{Free}
+use Rattle.hole_list.proofs.AddsUp.{by-walk}
 use Rattle.hole_list.proofs.Stands.{stands}
 use Rattle.hole_list.proofs.Sifted.{Refuses, refused-is, sound-is}
-use Rattle.joining.proofs.Neighbours.{no-bad, by-walk, Sought}
+use Rattle.joining.proofs.Neighbours.{no-bad, Sought}
 
 -- ---- the search from top
 
@@ -100,7 +101,7 @@ module _ {h : Heap} {m : List ℕ} {near : Near} (k : Sought h m (h .top) near) 
 -- ---- what is left behind
 
 -- a heap with another top and other pending bytes; the rest stays
-abbrev pub withTop : Heap → Addr → ℕ → Heap
+abbrev withTop : Heap → Addr → ℕ → Heap
 withTop h top pending =
     record {
       base = h .base;

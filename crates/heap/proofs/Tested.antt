@@ -60,7 +60,7 @@ module _ {l : Layout} (s align : ℕ) (said : l ≡ layoutOf s align) where
 
 module _ (h : Heap) (m : List ℕ) (l : Lent h m) where
   -- 6 is due, once the holes are walked
-  pub refused-6 : (c : Call) {d : Done} → outcome c h m ≡ sifted h (holes h m) (refused BadLayout)
+  refused-6 : (c : Call) {d : Done} → outcome c h m ≡ sifted h (holes h m) (refused BadLayout)
       → (d .answer ≡ Refused (cond (soundHoles h (holes h m)) BadLayout NotSound)) × (d .heap ≡ h) → Is (after c h m) d m
   refused-6 c e p =
       let ks = holes h m in

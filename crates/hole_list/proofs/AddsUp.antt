@@ -33,8 +33,13 @@ sum-over total used size l = ne-eqb (total + used) size (λ e. omega (arith, e))
 
 -- ---- the walk and the sum
 
+-- a heap's own holes keep the rules if the walk from its first floor does and the sum is right
+pub by-walk : (h : Heap) (m : List ℕ) → Fair h
+    → soundHoles h (holes h m) ≡ (walks h (startOf h) (holes h m) && eqb (Holes.total (holes h m) + h .used) (size h))
+by-walk h m fair = rw (start h m fair .floor) (sound-walks h fair (holes h m))
+
 -- what a walk finds adds up if every rule is kept and the sum is right
-pub adds-walked : (h : Heap) (floor : Addr) (total count largest : ℕ) (ks : List Hole)
+adds-walked : (h : Heap) (floor : Addr) (total count largest : ℕ) (ks : List Hole)
     → addsUp h (walkedOf h floor total count largest ks) ≡ (walks h floor ks && eqb (total + Holes.total ks + h .used) (size h))
 unfolding addsUp
 adds-walked h floor total count largest ks =
@@ -43,7 +48,7 @@ adds-walked h floor total count largest ks =
     (λ e. rw (walked-bad h floor total count largest ks e, e))
 
 -- a list that is walked through like what is left behind a floor, with the sum of what was passed
-pub sound-onward : (h : Heap) → Fair h → (floor : Addr) (total : ℕ) (ks back : List Hole)
+sound-onward : (h : Heap) → Fair h → (floor : Addr) (total : ℕ) (ks back : List Hole)
     → walks h (floorOf h ks) ks ≡ walks h floor back → Holes.total ks ≡ total + Holes.total back
     → soundHoles h ks ≡ addsUp h (walkedOf h floor total 0 0 back)
 sound-onward h f floor total ks back onward sum =

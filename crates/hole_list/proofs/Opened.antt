@@ -15,7 +15,7 @@ use Rattle.rules.proofs.Cases.{any-each}
 use Rattle.rules.proofs.Multiples.{above-is}
 
 pub record Opens (len : ℕ) (base : Addr) (named : ℕ) : Type 0 where
-  pub positive : 1 ≤ base .0
+  positive : 1 ≤ base .0
   pub small : len ≤ arenaLimit
   pub low : base .0 + len ≤ addrLimit
   pub fits : named ≤ len

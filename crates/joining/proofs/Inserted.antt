@@ -40,7 +40,7 @@ use Rattle.joining.proofs.Between.{
 }
 
 -- a heap and an arena that hold the holes ks now
-abbrev pub Holding : Heap → List ℕ → List Hole → Heap → List ℕ → Type 0
+abbrev Holding : Heap → List ℕ → List Hole → Heap → List ℕ → Type 0
 Holding h m ks h′ m′ = (h′ ≡ renewed h ks (h .top) (h .pending) (h .used)) × (m′ ≡ putHeads (h .base) ks m)
 
 module _ (h : Heap) (m : List ℕ) (g : Hole) (front back : List Hole) (s : Between h m g front back) where

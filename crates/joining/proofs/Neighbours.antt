@@ -1,10 +1,9 @@
 -- The neighbours that the search found: what it passed before them, and the walk that goes on behind. Assumes nothing.
 use mathlib.Core.Path.{_≡_, sym, ap, _∙_}
-use mathlib.Core.Bool.{false, _&&_}
+use mathlib.Core.Bool.{false}
 use mathlib.Core.List.{List, [], _∷_, _++_}
 use Prim.Native.Nat.{ℕ, suc, _+_, _*_, _≤_}
 use native.Mathlib.Omega.{arith}
-use lib.Dec.{eqb}
 use lib.ListN.{length}
 use borrow.Author.Tests.{le-ltb}
 use Rattle.rules.specs.Fixed.{minSize}
@@ -18,7 +17,7 @@ use Rattle.rules.specs.declared.Place.{Place}
 use Rattle.rules.specs.declared.Hole.{Hole}
 use Rattle.rules.specs.declared.Heap.{Heap}
 use Rattle.rules.proofs.Cases.{cases}
-use Rattle.rules.proofs.Walk.{Fair, headRules, rules-keep, behind, walks, sound-walks}
+use Rattle.rules.proofs.Walk.{Fair, headRules, rules-keep, behind}
 use Rattle.rules.proofs.Totals.{total-append}
 use Rattle.cursor.specs.Walk.{Enough, startOf, walkedOf}
 use Rattle.spotting.specs.Nearest.{nearOf}
@@ -30,7 +29,7 @@ use Rattle.cursor.proofs.Turn.{start}
 use Rattle.cursor.proofs.Passed.{lastFloor}
 use Rattle.spotting.proofs.ToSpan.{AllFrom, Lies, near-bad, near-at}
 use Rattle.hole_list.specs.Settled.{addsUp}
-use Rattle.hole_list.proofs.AddsUp.{holes-onward}
+use Rattle.hole_list.proofs.AddsUp.{by-walk, holes-onward}
 use Rattle.hole_list.proofs.Rest.{rest}
 
 -- ---- what was passed
@@ -60,10 +59,6 @@ near-spaced h x low from total (k ∷ front) back a l e =
     (λ r. no-bad (rw r at e))
 
 -- ---- the rules on all holes
-
-pub by-walk : (h : Heap) (m : List ℕ) → Fair h
-    → soundHoles h (holes h m) ≡ (walks h (startOf h) (holes h m) && eqb (Holes.total (holes h m) + h .used) (size h))
-by-walk h m fair = rw (start h m fair .floor) (sound-walks h fair (holes h m))
 
 -- a rule that the search found broken
 pub near-broken : (h : Heap) (m : List ℕ) (x : Addr) → Fair h → {r : Spot} → r ≡ nearOf h x (startOf h) none 0 (holes h m)

@@ -20,10 +20,10 @@ pub record Openable (len : ℕ) (base : Addr) (named : ℕ) : Type 0 where
   pub room : bytesTo base (raised grain base) + minSize ≤ named
 
 module _ (len : ℕ) (base : Addr) (named : ℕ) where
-  pub may-open : any (refusal1 len base named) ≡ false → Openable len base named
+  may-open : any (refusal1 len base named) ≡ false → Openable len base named
   may-open e = let r = any-each (refusal1 len base named) e in omega (arith, ltb-false, eqb-false (base .0) 0 (r .0))
 
-  pub open-may : Openable len base named → any (refusal1 len base named) ≡ false
+  open-may : Openable len base named → any (refusal1 len base named) ≡ false
   open-may o = each-any (refusal1 len base named) (ne-eqb (base .0) 0 (λ z. omega arith), omega (arith, le-ltb))
 
   -- a condition holds

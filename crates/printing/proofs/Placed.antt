@@ -18,7 +18,7 @@ pub placed-length : (new : List ℕ) (at : ℕ) (m : List ℕ) → at + length n
 placed-length new at m l = simp (length-append, length-take, length-drop) (omega arith)
 
 -- one byte
-pub placed-one : (b at : ℕ) (m : List ℕ) → at < length m → set m at b ≡ placed (b ∷ []) at m
+placed-one : (b at : ℕ) (m : List ℕ) → at < length m → set m at b ≡ placed (b ∷ []) at m
 placed-one b at m l = let e : at + 1 ≡ suc at = omega arith in rw e (set-split m at b l)
 
 -- what stands up to the part's end
@@ -29,7 +29,7 @@ take-placed new at m l =
     rw (← append-assoc (take at m) new (drop (at + length new) m)) (take-at (take at m ++ new) _ _ e)
 
 -- and what stands behind it
-pub drop-placed : (new : List ℕ) (at k : ℕ) (m : List ℕ) → at ≤ length m
+drop-placed : (new : List ℕ) (at k : ℕ) (m : List ℕ) → at ≤ length m
     → drop (at + length new + k) (placed new at m) ≡ drop (at + length new + k) m
 drop-placed new at k m l =
     let e : length (take at m ++ new) ≡ at + length new = simp (length-append, length-take) (omega arith) in
@@ -45,7 +45,7 @@ placed-behind a b at i m l e =
     rw (e, take-placed a at m l, drop-placed a at (length b) m l, n) (simp append-assoc)
 
 -- the last byte of a part, written before the others are
-pub placed-last : (new : List ℕ) (b at : ℕ) (m : List ℕ) → at + length new < length m
+placed-last : (new : List ℕ) (b at : ℕ) (m : List ℕ) → at + length new < length m
     → placed new at (set m (at + length new) b) ≡ placed (new ++ (b ∷ [])) at m
 placed-last new b at m l =
     let n : at + length (new ++ (b ∷ [])) ≡ suc (at + length new) = simp length-append (omega arith) in
@@ -61,7 +61,7 @@ placed-last new b at m l =
 
 -- ---- digits and lines
 
-pub hex-length : (n x : ℕ) → length (hex n x) ≡ n
+hex-length : (n x : ℕ) → length (hex n x) ≡ n
 unfolding hex
 hex-length zero x = refl
 hex-length (suc n) x = simp (length-append, hex-length n (x / 16)) (omega arith)

@@ -2,6 +2,7 @@
 // the lines that the original gave, marked by '='. It runs the calls and says how many lines agree.
 // How the list was made: tests/against/sample.sh.
 use frame::answer_line;
+use printing::LINE;
 use rules::Heap;
 ghost use Prim.Native.Nat.{_+_, _≤_};
 ghost use lib.ListN.{length};
@@ -13,9 +14,6 @@ const OUTPUT: i32 = 1;
 const LF: u8 = 10;
 
 const MARK: u8 = 61;
-
-// The bytes of an answer's line, its LF with it.
-const LINE: usize = 35;
 
 // The box, what is left to compare of its last answer, and the count.
 struct Tally {

@@ -18,8 +18,8 @@ use Rattle.rules.specs.declared.Addr.{Addr}
 use Rattle.rules.specs.declared.Place.{Place}
 use Rattle.rules.specs.declared.Hole.{Hole}
 use Rattle.rules.specs.declared.Heap.{Heap}
-use Rattle.rules.proofs.Cases.{cases, apart, and-left, and-right}
-use Rattle.rules.proofs.Walk.{headRules, behind, ends, walks, floorOf, sound-walks}
+use Rattle.rules.proofs.Cases.{cases, apart, and-right}
+use Rattle.rules.proofs.Walk.{headRules, behind, ends, walks, sound-walk}
 use Rattle.rules.proofs.Reports.{over-length}
 use Rattle.cursor.specs.Walk.{Enough, startOf, lastOf, stepOf}
 use Rattle.cursor.specs.declared.Step.{Step}
@@ -82,8 +82,8 @@ pub record Filling (h : Heap) (m addrs₀ sizes₀ addrs sizes : List ℕ) (at :
   pub low : floor .0 ≤ h .top .0 + minSize
   pub walked : walks h floor (holesFrom left (h .base) m at) ≡ true
   pub count : length front ≡ i
-  pub «addrs-are» : addrs ≡ over (map (λ k. number (k .addr)) front) addrs₀
-  pub «sizes-are» : sizes ≡ over (map (λ k. k .size) front) sizes₀
+  «addrs-are» : addrs ≡ over (map (λ k. number (k .addr)) front) addrs₀
+  «sizes-are» : sizes ≡ over (map (λ k. k .size) front) sizes₀
 
 module _ (h : Heap) (m addrs₀ sizes₀ : List ℕ) where
   pub filling : Settled h m → {floor : Addr} → floor ≡ startOf h → Filling h m addrs₀ sizes₀ addrs₀ sizes₀ (h .first) floor 0
@@ -92,7 +92,7 @@ module _ (h : Heap) (m addrs₀ sizes₀ : List ℕ) where
       let f = s .ready .lent .fair in
       let t = start h m f in
       let ks = holes h m in
-      let w = and-left (walks h (floorOf h ks) ks) _ (sym (sound-walks h f ks) ∙ s .sound) in
+      let w = sound-walk h f ks (s .sound) in
       let v : walks h (startOf h) ks ≡ true = rw (t .floor) w in
       record {
         front = [];

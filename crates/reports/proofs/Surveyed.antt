@@ -18,8 +18,8 @@ use Rattle.rules.specs.declared.Heap.{Heap}
 use Rattle.rules.specs.declared.Refusal.{Refusal}
 use Rattle.rules.specs.declared.Refusal.the-variants.{NotSound}
 use Rattle.rules.specs.declared.Answer.the-variants.{Listed, Room}
-use Rattle.rules.proofs.Cases.{cases, and-left, all-each}
-use Rattle.rules.proofs.Walk.{walks, floorOf, sound-fair, fair-sound, sound-walks}
+use Rattle.rules.proofs.Cases.{cases, all-each}
+use Rattle.rules.proofs.Walk.{sound-fair, fair-sound, sound-walk}
 use Rattle.rules.proofs.Decide.{Opens}
 use Rattle.rules.proofs.Calls.{outcome-fair, sifted-sound, sifted-broken, list-on, room-on}
 use Rattle.cursor.specs.Walk.{Lent, Enough, startOf, walkedOf}
@@ -68,7 +68,7 @@ module _ (h : Heap) (m : List ℕ) (l : Lent h m) {w : Walked} (all : w ≡ walk
       → (n ≡ length (holes h m)) × (g ≡ Holes.largest (holes h m))
   walk-found {t} {n} {g} e s =
       let ks = holes h m in
-      let k = and-left (walks h (floorOf h ks) ks) _ (sym (sound-walks h (l .fair) ks) ∙ s) in
+      let k = sound-walk h (l .fair) ks s in
       let v = walked-good h (startOf h) 0 0 0 ks (rw (start h m (l .fair) .floor) k) in
       let a : n ≡ 0 + length ks = cc in
       let b : g ≡ max 0 (Holes.largest ks) = cc in

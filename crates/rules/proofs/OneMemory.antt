@@ -36,7 +36,7 @@ hold-place base m w p q [] s t = s ∙ sym t
 hold-place base m w p q (k ∷ ks) s t = omega (arith, s .1, t .1)
 
 -- the bytes of each head are fixed
-pub one-head : (base : ℕ) (m w : List ℕ) (p : ℕ) (ks : List Hole) → Hold base m p ks → Hold base w p ks
+one-head : (base : ℕ) (m w : List ℕ) (p : ℕ) (ks : List Hole) → Hold base m p ks → Hold base w p ks
     → Bytes m → Bytes w
     → (k : Hole) → List·Memᴰ k ks → (i : ℕ) → Within (k .addr .0 - base) 16 i → getD m i 0 ≡ getD w i 0
 one-head base m w p [] s t b c k d i l = absurd (List·Memᴰ·not-nil d)

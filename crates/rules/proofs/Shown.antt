@@ -64,7 +64,7 @@ opens = opening (addr 0x1001) 74
 abbrev pub freeing : Call
 freeing = free (addr 0x1020) 16 16
 
-abbrev pub emptied : After
+abbrev emptied : After
 emptied = after freeing half stage
 
 -- ---- ours
@@ -80,8 +80,8 @@ pub record Shown : Type 0 where
   pub high : after (allocate 24 16) half stage .answer ≡ Allocated (addr 0x1030) 2
   pub frees : emptied .answer ≡ Freed 16 0
   pub empty : emptied .heap .used ≡ 0
-  pub goodMore : sound more (holes more stage) ≡ true
-  pub goodThen : sound (emptied .heap) (holes (emptied .heap) (emptied .arena)) ≡ true
+  goodMore : sound more (holes more stage) ≡ true
+  goodThen : sound (emptied .heap) (holes (emptied .heap) (emptied .arena)) ≡ true
   pub joined : holes (emptied .heap) (emptied .arena) ≡ hole (addr 0x1008) 64 ∷ []
   pub again : after (allocate 16 16) (emptied .heap) (emptied .arena) .answer ≡ Allocated (addr 0x1020) 1
   pub grows : after (extend 14) half stage .answer ≡ Extended 80 1

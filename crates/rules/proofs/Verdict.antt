@@ -19,7 +19,7 @@ Before [] D o = D
 Before (t ∷ ts) D o = (t .«exactly-if» → o ≡ refused (t .gives)) × ((t .«exactly-if» → ⊥) → Before ts D o)
 
 -- whatever stands behind 3, 4 and 5, the call is refused with r
-abbrev pub Stops : Behaviour → Heap → List ℕ → Refusal → Type 1
+abbrev Stops : Behaviour → Heap → List ℕ → Refusal → Type 1
 Stops b h m r = (D : Type 0) (o : Outcome) → Before (refusalsOf b list h m) D o → o ≡ refused r
 
 -- whatever stands behind them, it decides

@@ -2,7 +2,6 @@
 -- Assumes nothing.
 use mathlib.Core.Path.{_≡_, refl, sym, ap, _∙_}
 use mathlib.Core.Logic.{inl, inr}
-use mathlib.Core.Bool.{_&&_}
 use mathlib.Core.List.{List, [], _∷_, _++_, append-assoc}
 use Prim.Native.Nat.{ℕ, suc, _+_, _*_, _≤_}
 use native.Mathlib.Omega.{arith}
@@ -27,7 +26,7 @@ use Rattle.rules.specs.declared.Heap.{Heap}
 use Rattle.rules.specs.declared.Done.{Done}
 use Rattle.rules.specs.declared.Refusal.the-variants.{NotSound}
 use Rattle.rules.proofs.Cases.{cases, by-test}
-use Rattle.rules.proofs.Walk.{Fair, headRules, rules-keep, behind, ends, walks, sound-walks}
+use Rattle.rules.proofs.Walk.{Fair, headRules, rules-keep, behind, ends}
 use Rattle.rules.proofs.Totals.{total-append}
 use Rattle.rules.proofs.Decide.{sifted}
 use Rattle.cursor.specs.Walk.{Enough, startOf, lastOf, walkedOf}
@@ -42,7 +41,7 @@ use Rattle.cursor.proofs.Turn.{start}
 use Rattle.fitting.proofs.ToFit.{Fits, fit-bad, fit-full, fit-at}
 use Rattle.hole_list.specs.Settled.{addsUp}
 use Rattle.taking.specs.NoHole.{noFit}
-use Rattle.hole_list.proofs.AddsUp.{holes-onward}
+use Rattle.hole_list.proofs.AddsUp.{by-walk, holes-onward}
 use Rattle.hole_list.proofs.Rest.{rest}
 use Rattle.hole_list.proofs.Sifted.{Refuses, refused-is, sound-is, broken-is}
 
@@ -123,10 +122,6 @@ not-full h (search.At f) o = refl
 not-full h (search.Full count total) (inl e) = absurd (omega arith)
 not-full h (search.Full count total) (inr e) = absurd (omega arith)
 not-full h search.Bad o = refl
-
-by-walk : (h : Heap) (m : List ℕ) → Fair h
-    → soundHoles h (holes h m) ≡ (walks h (startOf h) (holes h m) && eqb (Holes.total (holes h m) + h .used) (size h))
-by-walk h m fair = rw (start h m fair .floor) (sound-walks h fair (holes h m))
 
 -- a call that the answer of the search refuses has the outcome that document 01 says
 abbrev Refusing : Heap → List ℕ → ℕ → ℕ → Done → Search → Type 0

@@ -35,17 +35,17 @@ use Rattle.hole_list.proofs.Stands.{stands}
 -- ---- what remains, as the code writes it
 
 -- behind a block that starts in a hole, with the place of the next hole
-abbrev pub rearPlace : Addr → ℕ → Hole → Place → Addr → Place
+abbrev rearPlace : Addr → ℕ → Hole → Place → Addr → Place
 rearPlace base want k next start = firstOr base (remains (plus start want) (end k)) next
 
-abbrev pub rearArena : Addr → ℕ → Hole → Place → List ℕ → Addr → List ℕ
+abbrev rearArena : Addr → ℕ → Hole → Place → List ℕ → Addr → List ℕ
 rearArena base want k next m start = putHeadsTo base (remains (plus start want) (end k)) next m
 
 -- and in front of it
-abbrev pub leadPlace : Addr → ℕ → Hole → Place → Addr → Place
+abbrev leadPlace : Addr → ℕ → Hole → Place → Addr → Place
 leadPlace base want k next start = firstOr base (remains (k .addr) start) (rearPlace base want k next start)
 
-abbrev pub leadArena : Addr → ℕ → Hole → Place → List ℕ → Addr → List ℕ
+abbrev leadArena : Addr → ℕ → Hole → Place → List ℕ → Addr → List ℕ
 leadArena base want k next m start =
     putHeadsTo base (remains (k .addr) start) (rearPlace base want k next start) (rearArena base want k next m start)
 
@@ -85,7 +85,7 @@ module _
     (fair : Fair h)
     (rises : Rises (h .bottom .0) (h .top .0) (front ++ (k ∷ back)))
   where
-    pub split-arena : suits want align k ≡ true → 0 < align → Bytes m → Holds (h .base) m (front ++ (k ∷ back)) none
+    split-arena : suits want align k ≡ true → 0 < align → Bytes m → Holds (h .base) m (front ++ (k ∷ back)) none
         → linkedArena (leadArena (h .base) want k (firstOf (h .base) back) m (candidate align (k .addr)))
         (lastPlace (h .base) none front) (leadPlace (h .base) want k (firstOf (h .base) back) (candidate align (k .addr)))
         ≡ putHeads (h .base) (front ++ (split want align k ++ back)) m
@@ -103,7 +103,7 @@ module _
         (before-stands base lo hi front mid back p m bytes (fair .bottom) r (s .0) (s .1 .1))
         ∙ sym (relink base lo hi front mid back p m bytes (fair .bottom) r (s .0) (s .1 .1)))
 
-    pub split-heap : h .first ≡ firstOf (h .base) (front ++ (k ∷ back))
+    split-heap : h .first ≡ firstOf (h .base) (front ++ (k ∷ back))
         → linkedHeap h (lastPlace (h .base) none front)
         (leadPlace (h .base) want k (firstOf (h .base) back) (candidate align (k .addr)))
         ≡ leadingTo h (firstOf (h .base) (front ++ (split want align k ++ back)))
@@ -121,7 +121,7 @@ pub record Room (h : Heap) (len want align : ℕ) (f : Fit) : Type 0 where
   pub low : h .base .0 ≤ f .hole .addr .0
   pub least : minSize ≤ f .hole .size
   pub inside : end (f .hole) .0 ≤ h .base .0 + len
-  pub limit : h .base .0 + len ≤ addrLimit
+  limit : h .base .0 + len ≤ addrLimit
   pub start : f .hole .addr .0 ≤ candidate align (f .hole .addr) .0
   pub stop : candidate align (f .hole .addr) .0 + want ≤ end (f .hole) .0
   pub rear : (candidate align (f .hole .addr) .0 + want ≡ end (f .hole) .0 → ⊥)
