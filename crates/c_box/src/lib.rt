@@ -3,7 +3,7 @@
 // the answer's words.
 //
 // Each export is the call that it wraps, on the heap that the words say: of crate heap, or for the
-// readers of crate numbers. None has a `requires`: any words and any bytes may be lent. What C has to
+// readers of crate readers. None has a `requires`: any words and any bytes may be lent. What C has to
 // keep is what a reference means: arrays of these lengths that do not overlap.
 use rules::Addr;
 use words::load;
@@ -105,7 +105,7 @@ pub extern "C" fn lantern_list(
 pub extern "C" fn lantern_bottom(heap: &[u64; 7]) -> u64
     ensures { λ r. ⌜ r ≡ number (bottomOf (heapOf (now (heap .entry)))) ⌝ }
 {
-    numbers::bottom(load(heap)).0
+    readers::bottom(load(heap)).0
 }
 
 // The address after the heap's last byte, pending bytes counted.
@@ -113,7 +113,7 @@ pub extern "C" fn lantern_bottom(heap: &[u64; 7]) -> u64
 pub extern "C" fn lantern_top(heap: &[u64; 7]) -> u64
     ensures { λ r. ⌜ r ≡ number (topOf (heapOf (now (heap .entry)))) ⌝ }
 {
-    numbers::top(load(heap)).0
+    readers::top(load(heap)).0
 }
 
 // The bytes that the heap deals out, pending ones not counted.
@@ -121,7 +121,7 @@ pub extern "C" fn lantern_top(heap: &[u64; 7]) -> u64
 pub extern "C" fn lantern_size(heap: &[u64; 7]) -> u64
     ensures { λ r. ⌜ r ≡ sizeOf (heapOf (now (heap .entry))) ⌝ }
 {
-    numbers::size(load(heap))
+    readers::size(load(heap))
 }
 
 // The bytes that are held.
@@ -129,7 +129,7 @@ pub extern "C" fn lantern_size(heap: &[u64; 7]) -> u64
 pub extern "C" fn lantern_used(heap: &[u64; 7]) -> u64
     ensures { λ r. ⌜ r ≡ usedOf (heapOf (now (heap .entry))) ⌝ }
 {
-    numbers::used(load(heap))
+    readers::used(load(heap))
 }
 
 // The bytes that are free.
@@ -137,5 +137,5 @@ pub extern "C" fn lantern_used(heap: &[u64; 7]) -> u64
 pub extern "C" fn lantern_free_bytes(heap: &[u64; 7]) -> u64
     ensures { λ r. ⌜ r ≡ freeOf (heapOf (now (heap .entry))) ⌝ }
 {
-    numbers::free_bytes(load(heap))
+    readers::free_bytes(load(heap))
 }

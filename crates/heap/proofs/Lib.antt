@@ -2,5 +2,3 @@
 
 -- what the tests in front of a call earn it, and what it comes to then
 pub mod Tested
--- an opening
-pub mod Begun

@@ -3,10 +3,8 @@ use giving::deallocate;
 use hole::align_layout;
 use hole::arena_len;
 use hole_list::is_sound;
-use hole_list::new;
 use hole_list::refuse;
 use numbers::Checked;
-use numbers::bad_opening;
 use numbers::check;
 use rules::Addr;
 use rules::Answer;
@@ -21,27 +19,6 @@ ghost use Rattle.rules.specs.Sound.{soundHoles, holes};
 ghost use Rattle.rules.specs.Calls as Calls;
 ghost use Rattle.rules.specs.Outcome.{Is, after};
 ghost use Rattle.cursor.specs.Walk.{Lent};
-
-// Opens a heap on the first `named` bytes of the arena, whose first byte has the address `base`. It
-// tests 2, then 1.
-pub fn open(h: Heap, arena: &mut [u8], base: Addr, named: u64) -> Done
-    ensures { λ r. ⌜ Is (after (Calls.opening base named) h (now (arena .entry))) r (now (arena .exit)) ⌝ }
-{
-    if h.bottom.0 != 0 {
-        return refuse(h, Refusal::Opened);
-    }
-    let len = arena_len(arena);
-    if bad_opening(len, base, named) {
-        return refuse(h, Refusal::BadOpening);
-    }
-    let heap = new(arena, len, base, named);
-    let bottom = heap.bottom;
-    let size = heap.top.0 - bottom.0;
-    Done {
-        heap,
-        answer: Answer::Opening { bottom, size },
-    }
-}
 
 // A refusal that comes after 5: the holes are walked first.
 fn refuse_sound(h: Heap, arena: &[u8], r: Refusal) -> Done

@@ -10,5 +10,3 @@ pub mod Rest
 pub mod Stands
 -- an outcome that waits on the rules on the holes
 pub mod Sifted
--- the numbers of an opening
-pub mod Opened

@@ -1,14 +1,12 @@
 // The hole list: what every call on it leans on, once the heap's numbers keep their rules. The few
-// heads that change are written here, the sum of the sizes is tested, and a new list is one hole.
+// heads that change are written here, and the sum of the sizes is tested.
 // Each call walks the list once: the pass that looks for the hole or the neighbours also tests the
 // heads, and goes on to the end.
 mod heads;
-mod opening;
 mod sums;
 
 pub use heads::link;
 pub use heads::remain;
-pub use opening::new;
 pub use sums::adds_up;
 pub use sums::is_sound;
 pub use sums::refuse;

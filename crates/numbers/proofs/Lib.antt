@@ -6,5 +6,3 @@ pub mod Rules
 pub mod Refused
 -- what check says
 pub mod Verdicts
--- what a readable heap says
-pub mod Reading

@@ -1,4 +1,4 @@
--- `c_box::lantern_bottom` meets its contract: it is `numbers::bottom` on the heap that the words say. Assumes nothing.
+-- `c_box::lantern_bottom` meets its contract: it is `readers::bottom` on the heap that the words say. Assumes nothing.
 use borrow.Author.Needs.{needs}
 use Rattle.rules.specs.Readers.{bottomOf}
 use Rattle.c_box.proofs.Shown.{read-of}

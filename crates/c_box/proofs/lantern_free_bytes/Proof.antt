@@ -1,4 +1,4 @@
--- `c_box::lantern_free_bytes` meets its contract: it is `numbers::free_bytes` on the heap that the words say. Assumes nothing.
+-- `c_box::lantern_free_bytes` meets its contract: it is `readers::free_bytes` on the heap that the words say. Assumes nothing.
 use borrow.Author.Needs.{needs}
 use Rattle.rules.specs.Readers.{freeOf}
 use Rattle.c_box.proofs.Shown.{read-of}

@@ -1,4 +1,4 @@
--- `c_box::lantern_size` meets its contract: it is `numbers::size` on the heap that the words say. Assumes nothing.
+-- `c_box::lantern_size` meets its contract: it is `readers::size` on the heap that the words say. Assumes nothing.
 use borrow.Author.Needs.{needs}
 use Rattle.rules.specs.Readers.{sizeOf}
 use Rattle.c_box.proofs.Shown.{read-of}

@@ -1,4 +1,4 @@
--- `c_box::lantern_top` meets its contract: it is `numbers::top` on the heap that the words say. Assumes nothing.
+-- `c_box::lantern_top` meets its contract: it is `readers::top` on the heap that the words say. Assumes nothing.
 use borrow.Author.Needs.{needs}
 use Rattle.rules.specs.Readers.{topOf}
 use Rattle.c_box.proofs.Shown.{read-of}

@@ -1,4 +1,4 @@
--- `c_box::lantern_used` meets its contract: it is `numbers::used` on the heap that the words say. Assumes nothing.
+-- `c_box::lantern_used` meets its contract: it is `readers::used` on the heap that the words say. Assumes nothing.
 use borrow.Author.Needs.{needs}
 use Rattle.rules.specs.Readers.{usedOf}
 use Rattle.c_box.proofs.Shown.{read-of}
