@@ -1,9 +1,9 @@
 // The calls that may change the heap.
 use giving::deallocate;
-use hole::align_layout;
 use hole::arena_len;
 use hole_list::is_sound;
 use hole_list::refuse;
+use layout::align_layout;
 use numbers::Checked;
 use numbers::check;
 use rules::Addr;

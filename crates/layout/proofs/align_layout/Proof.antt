@@ -1,4 +1,4 @@
--- `hole::layout::align_layout` meets its contract: each test that it makes decides refusal 6, and what it rounds up is the rounded size.
+-- `layout::align_layout` meets its contract: each test that it makes decides refusal 6, and what it rounds up is the rounded size.
 -- Assumes nothing.
 use mathlib.Core.Path.{sym, _∙_}
 use Prim.Native.Nat.{_^_, _<_}
@@ -7,8 +7,8 @@ use borrow.Author.Needs.{needs}
 use Rattle.rules.specs.Fixed.{width}
 use Rattle.rules.proofs.Powers.{power-half, one-power, ones-in, grain-power}
 use Rattle.rules.proofs.Layouts.{is-rounded, rounded-covers, layout-no-power, layout-large, layout-fits}
-use Rattle.hole.proofs.layout.align_layout.Statement.{statement}
-use Rattle.hole.proofs.layout.align_layout.Tie as tie
+use Rattle.layout.proofs.align_layout.Statement.{statement}
+use Rattle.layout.proofs.align_layout.Tie as tie
 
 returns : tie.Need-returns
 returns c =
