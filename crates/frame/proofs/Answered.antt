@@ -9,21 +9,21 @@ use Rattle.rules.specs.Answers.{answerNumbers}
 use Rattle.rules.specs.Outcome.{outcome, after, Is}
 use Rattle.rules.specs.declared.Heap.{Heap}
 use Rattle.rules.specs.declared.Done.{Done}
-use Rattle.frame.specs.Wire.{numbersLine, spoken, replyTo, Reply}
+use Rattle.frame.specs.Wire.{numbersLine, spoken, replyTo, Reply, longest}
 use Rattle.frame.specs.declared.Replied.{Replied}
 use Rattle.frame.proofs.Spoken.{lists, spoken-line, list-stays}
 
 -- the heap handed back, the bytes printed and the arena left are what the line comes to, and no more bytes are printed than there is room for
 abbrev pub Answers : Reply → Replied → List ℕ → List ℕ → Type 0
-Answers a r out m = (r .heap ≡ a .heap) × (take (r .len) out ≡ a .printed) × (m ≡ a .arena) × (r .len ≤ 71715)
+Answers a r out m = (r .heap ≡ a .heap) × (take (r .len) out ≡ a .printed) × (m ≡ a .arena) × (r .len ≤ longest)
 
 -- a call that prints one line
 pub replied-line : (c : Call) (h : Heap) (m : List ℕ) (r : Replied) (out : List ℕ) {a : Reply} {d : Done} {m′ : List ℕ}
     → a ≡ replyTo c h m → lists c ≡ false → Is (after c h m) d m′
-    → (r .heap ≡ d .heap) × (take (r .len) out ≡ numbersLine (answerNumbers (d .answer))) × (r .len ≤ 71715) → Answers a r out m′
+    → (r .heap ≡ d .heap) × (take (r .len) out ≡ numbersLine (answerNumbers (d .answer))) × (r .len ≤ longest) → Answers a r out m′
 replied-line c h m r out e q i t = rw e (t .0 ∙ i .1, t .1 ∙ rw (i .0) (sym (spoken-line c h m q)), i .2, t .2)
 
 -- the list
 pub replied-list : (h : Heap) (m : List ℕ) (r : Replied) (out : List ℕ) {a : Reply}
-    → a ≡ replyTo list h m → (r .heap ≡ h) × (take (r .len) out ≡ spoken (outcome list h m)) × (r .len ≤ 71715) → Answers a r out m
+    → a ≡ replyTo list h m → (r .heap ≡ h) × (take (r .len) out ≡ spoken (outcome list h m)) × (r .len ≤ longest) → Answers a r out m
 replied-list h m r out e t = let s = list-stays h m in rw e (t .0 ∙ s .0, t .1, s .1, t .2)

@@ -51,3 +51,7 @@ reply Bad h m = record { printed = line 0xff 0 0; heap = h; arena = m }
 -- what a line, its LF taken off, comes to
 abbrev pub replied : List ℕ → Heap → List ℕ → Reply
 replied bytes h m = reply (frameOf bytes) h m
+
+-- the bytes of the longest answer: the list's line, and one for each of the 2,048 holes that a sound heap has at most
+abbrev pub longest : ℕ
+longest = 71715

@@ -17,11 +17,11 @@ ghost use lib.ListN.{take};
 ghost use Rattle.rules.specs.Calls as Calls;
 ghost use Rattle.rules.specs.Answers.{answerNumbers};
 ghost use Rattle.rules.specs.Outcome.{outcome};
-ghost use Rattle.frame.specs.Wire.{numbersLine, spoken, replied};
+ghost use Rattle.frame.specs.Wire.{numbersLine, spoken, replied, longest};
 
 // Prints what a call gave back.
 fn tell(out: &mut [u8; LONGEST], done: Done) -> Replied
-    ensures { λ r. ⌜ (r .heap ≡ done .heap) × (take (r .len) (now (out .exit)) ≡ numbersLine (answerNumbers (done .answer))) × (r .len ≤ 71715) ⌝ }
+    ensures { λ r. ⌜ (r .heap ≡ done .heap) × (take (r .len) (now (out .exit)) ≡ numbersLine (answerNumbers (done .answer))) × (r .len ≤ longest) ⌝ }
 {
     let answer = done.answer;
     let t = answer_numbers(answer);
@@ -33,7 +33,7 @@ fn tell(out: &mut [u8; LONGEST], done: Done) -> Replied
 // Prints the list: its line, then a line for each hole. A sound heap has at most 2,048; a refusal
 // says 0 where the list says how many there are.
 fn tell_list(h: Heap, arena: &[u8], out: &mut [u8; LONGEST]) -> Replied
-    ensures { λ r. ⌜ (r .heap ≡ h) × (take (r .len) (now (out .exit)) ≡ spoken (outcome Calls.list h (now (arena .entry)))) × (r .len ≤ 71715) ⌝ }
+    ensures { λ r. ⌜ (r .heap ≡ h) × (take (r .len) (now (out .exit)) ≡ spoken (outcome Calls.list h (now (arena .entry)))) × (r .len ≤ longest) ⌝ }
 {
     let mut addrs = [0u64; MOST];
     let mut sizes = [0u64; MOST];
@@ -51,7 +51,7 @@ fn tell_list(h: Heap, arena: &[u8], out: &mut [u8; LONGEST]) -> Replied
 // What a line, its LF taken off, comes to: the bytes printed, the heap and the arena. A line that is
 // no frame gives ff, 0, 0 and does nothing.
 pub fn answer_line(h: Heap, arena: &mut [u8], line: &[u8], out: &mut [u8; LONGEST]) -> Replied
-    ensures { λ r. ⌜ (r .heap ≡ replied (now (line .entry)) h (now (arena .entry)) .heap) × (take (r .len) (now (out .exit)) ≡ replied (now (line .entry)) h (now (arena .entry)) .printed) × (now (arena .exit) ≡ replied (now (line .entry)) h (now (arena .entry)) .arena) × (r .len ≤ 71715) ⌝ }
+    ensures { λ r. ⌜ (r .heap ≡ replied (now (line .entry)) h (now (arena .entry)) .heap) × (take (r .len) (now (out .exit)) ≡ replied (now (line .entry)) h (now (arena .entry)) .printed) × (now (arena .exit) ≡ replied (now (line .entry)) h (now (arena .entry)) .arena) × (r .len ≤ longest) ⌝ }
 {
     let frame = read_frame(line);
     match frame {

@@ -5,6 +5,9 @@ mod answer;
 pub use answer::answer_line;
 use rules::Heap;
 
+// The bytes of the arena that the programs hold.
+pub const ARENA: usize = 65_536;
+
 // The most holes of a sound heap, and the bytes of the longest answer: the list's line, and one for
 // each hole.
 pub const MOST: usize = 2_048;

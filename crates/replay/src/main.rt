@@ -1,11 +1,14 @@
 // Replays stored answers of the original: calls as wire frames on standard input, each followed by
 // the lines that the original gave, marked by '='. It runs the calls and says how many lines agree.
 // How the list was made: tests/against/sample.sh.
+use frame::ARENA;
+use frame::LONGEST;
 use frame::answer_line;
 use printing::LINE;
 use rules::Heap;
 ghost use Prim.Native.Nat.{_+_, _≤_};
 ghost use lib.ListN.{length};
+ghost use Rattle.frame.specs.Wire.{longest};
 
 const INPUT: i32 = 0;
 
@@ -45,8 +48,8 @@ fn line_end(text: &[u8], from: usize) -> usize
 }
 
 // A stored line is the answer's from an index on.
-fn same(line: &[u8], reply: &[u8; 71715], at: usize) -> bool
-    requires { ⌜ at + 35 ≤ 71715 ⌝ }
+fn same(line: &[u8], reply: &[u8; LONGEST], at: usize) -> bool
+    requires { ⌜ at + 35 ≤ longest ⌝ }
 {
     if line.len() != LINE - 1 {
         return false;
@@ -62,9 +65,9 @@ fn same(line: &[u8], reply: &[u8; 71715], at: usize) -> bool
 }
 
 // A line that the original gave.
-fn stored(t: Tally, line: &[u8], reply: &[u8; 71715]) -> Tally
-    requires { ⌜ (t .at ≤ t .len) × (t .len ≤ 71715) ⌝ }
-    ensures { λ r. ⌜ (r .at ≤ r .len) × (r .len ≤ 71715) ⌝ }
+fn stored(t: Tally, line: &[u8], reply: &[u8; LONGEST]) -> Tally
+    requires { ⌜ (t .at ≤ t .len) × (t .len ≤ longest) ⌝ }
+    ensures { λ r. ⌜ (r .at ≤ r .len) × (r .len ≤ longest) ⌝ }
 {
     let at = t.at;
     if t.len - at < LINE {
@@ -88,8 +91,8 @@ fn stored(t: Tally, line: &[u8], reply: &[u8; 71715]) -> Tally
 }
 
 // A call. Lines of the answer before it that the original did not give differ.
-fn called(t: Tally, arena: &mut [u8; 65536], line: &[u8], reply: &mut [u8; 71715]) -> Tally
-    ensures { λ r. ⌜ (r .at ≤ r .len) × (r .len ≤ 71715) ⌝ }
+fn called(t: Tally, arena: &mut [u8; ARENA], line: &[u8], reply: &mut [u8; LONGEST]) -> Tally
+    ensures { λ r. ⌜ (r .at ≤ r .len) × (r .len ≤ longest) ⌝ }
 {
     let h = t.heap;
     let replied = answer_line(h, arena, line, reply);
@@ -108,9 +111,9 @@ fn called(t: Tally, arena: &mut [u8; 65536], line: &[u8], reply: &mut [u8; 71715
 }
 
 // One line of the text.
-fn heard(t: Tally, arena: &mut [u8; 65536], line: &[u8], reply: &mut [u8; 71715]) -> Tally
-    requires { ⌜ (t .at ≤ t .len) × (t .len ≤ 71715) ⌝ }
-    ensures { λ r. ⌜ (r .at ≤ r .len) × (r .len ≤ 71715) ⌝ }
+fn heard(t: Tally, arena: &mut [u8; ARENA], line: &[u8], reply: &mut [u8; LONGEST]) -> Tally
+    requires { ⌜ (t .at ≤ t .len) × (t .len ≤ longest) ⌝ }
+    ensures { λ r. ⌜ (r .at ≤ r .len) × (r .len ≤ longest) ⌝ }
 {
     if line.len() == 0 {
         return called(t, arena, line, reply);
@@ -122,8 +125,8 @@ fn heard(t: Tally, arena: &mut [u8; 65536], line: &[u8], reply: &mut [u8; 71715]
 }
 
 // All of the text, line by line.
-fn replay(first: Tally, text: &[u8], arena: &mut [u8; 65536], reply: &mut [u8; 71715]) -> Tally
-    requires { ⌜ (first .at ≤ first .len) × (first .len ≤ 71715) ⌝ }
+fn replay(first: Tally, text: &[u8], arena: &mut [u8; ARENA], reply: &mut [u8; LONGEST]) -> Tally
+    requires { ⌜ (first .at ≤ first .len) × (first .len ≤ longest) ⌝ }
 {
     let mut t = first;
     let mut from: usize = 0;
@@ -137,8 +140,8 @@ fn replay(first: Tally, text: &[u8], arena: &mut [u8; 65536], reply: &mut [u8; 7
 
 fn main() {
     let mut text = [0u8; 262144];
-    let mut arena = [0u8; 65536];
-    let mut reply = [0u8; 71715];
+    let mut arena = [0u8; ARENA];
+    let mut reply = [0u8; LONGEST];
     let n = io::read_full(INPUT, &mut text);
     let t = replay(
         Tally {

@@ -39,27 +39,22 @@ eight-append g [] ys = refl
 eight-append g (k ∷ xs) ys =
     rw (eight-append g xs ys) (sym (or-assoc (near g k) (eightToHole g xs) (eightToHole g ys)))
 
--- ---- a hole stands against it, wherever it lies in the list
+-- ---- a hole stands against it
 
-module _ (g k : Hole) (front back : List Hole) where
-  pub overlaps-at : g .addr .0 < end k .0 → k .addr .0 < end g .0 → overlaps g (front ++ (k ∷ back)) ≡ true
+module _ (g k : Hole) (ks : List Hole) where
+  overlaps-at : g .addr .0 < end k .0 → k .addr .0 < end g .0 → overlaps g (k ∷ ks) ≡ true
   unfolding overlaps
-  overlaps-at l m =
-      rw (overlaps-append g front (k ∷ back), lt-ltb (g .addr .0) (end k .0) l, lt-ltb (k .addr .0) (end g .0) m)
-      (or-true (overlaps g front))
+  overlaps-at l m = rw (lt-ltb (g .addr .0) (end k .0) l, lt-ltb (k .addr .0) (end g .0) m)
 
   -- 8 bytes before the hole
-  pub eight-before : end g .0 + grain ≡ k .addr .0 → eightToHole g (front ++ (k ∷ back)) ≡ true
+  eight-before : end g .0 + grain ≡ k .addr .0 → eightToHole g (k ∷ ks) ≡ true
   unfolding eightToHole
-  eight-before e =
-      rw (eight-append g front (k ∷ back), eq-eqb (end g .0 + grain) (k .addr .0) e) (or-true (eightToHole g front))
+  eight-before e = rw (eq-eqb (end g .0 + grain) (k .addr .0) e)
 
   -- 8 bytes behind it
-  pub eight-behind : end k .0 + grain ≡ g .addr .0 → eightToHole g (front ++ (k ∷ back)) ≡ true
+  eight-behind : end k .0 + grain ≡ g .addr .0 → eightToHole g (k ∷ ks) ≡ true
   unfolding eightToHole
-  eight-behind e =
-      rw (eight-append g front (k ∷ back), eq-eqb (end k .0 + grain) (g .addr .0) e, or-true (eqb (end g .0 + grain) (k .addr .0)))
-      (or-true (eightToHole g front))
+  eight-behind e = rw (eq-eqb (end k .0 + grain) (g .addr .0) e, or-true (eqb (end g .0 + grain) (k .addr .0)))
 
 -- ---- none does
 
@@ -104,15 +99,15 @@ clear-rest g k ks c = (or-right (overlap g k) (overlaps g ks) (c .0), or-right (
 pub clear-follows : (g k : Hole) (ks : List Hole) → Clear g (k ∷ ks) → minSize ≤ k .size → g .addr .0 < k .addr .0
     → Follows (k .addr .0) (end g .0)
 clear-follows g k ks c n l = (
-  by-contra (end g .0) (k .addr .0) (λ d. apart (overlaps-at g k [] ks (omega arith) d) (c .0)),
-  λ e. apart (eight-before g k [] ks e) (c .1),
+  by-contra (end g .0) (k .addr .0) (λ d. apart (overlaps-at g k ks (omega arith) d) (c .0)),
+  λ e. apart (eight-before g k ks e) (c .1),
 )
 
 pub clear-followed : (g k : Hole) (ks : List Hole) → Clear g (k ∷ ks) → minSize ≤ g .size → k .addr .0 ≤ g .addr .0
     → Follows (g .addr .0) (end k .0)
 clear-followed g k ks c n l = (
-  by-contra (end k .0) (g .addr .0) (λ d. apart (overlaps-at g k [] ks d (omega arith)) (c .0)),
-  λ e. apart (eight-behind g k [] ks e) (c .1),
+  by-contra (end k .0) (g .addr .0) (λ d. apart (overlaps-at g k ks d (omega arith)) (c .0)),
+  λ e. apart (eight-behind g k ks e) (c .1),
 )
 
 pub one-before : (g k : Hole) (ks : List Hole) → Follows (g .addr .0) (end k .0) → Clear g ks → Clear g (k ∷ ks)

@@ -1,14 +1,12 @@
 -- What holds of the program's memory from line to line. Definitions only.
 use Prim.Native.Nat.{ℕ, _≤_}
 use mathlib.Core.Path.{_≡_}
+use Rattle.frame.specs.Wire.{longest}
 use Rattle.wire.specs.declared.Talk.{Talk}
 
--- the bytes kept of a line; those of the longest answer; those for answers that wait, the longest twice
+-- the bytes kept of a line; those for answers that wait, the longest twice
 abbrev pub lineRoom : ℕ
 lineRoom = 51
-
-abbrev pub longest : ℕ
-longest = 71715
 
 abbrev pub answersRoom : ℕ
 answersRoom = 143430

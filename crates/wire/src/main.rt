@@ -3,6 +3,7 @@
 // promise. Here bytes are only moved, in memory that does not grow with the input, and what is promised
 // is that they stay in it. A part of a slice is written `[0..n]`, since the borrow checker then knows its
 // length by itself.
+use frame::ARENA;
 use frame::LONGEST;
 use frame::answer_line;
 use libc::STDIN_FILENO;
@@ -11,11 +12,10 @@ use rules::Heap;
 ghost use mathlib.Core.Path.{_≡_};
 ghost use Prim.Native.Nat.{_≤_};
 ghost use lib.ListN.{length};
-ghost use Rattle.wire.specs.Bounds.{lineRoom, longest, answersRoom, Bounded, Settled};
+ghost use Rattle.frame.specs.Wire.{longest};
+ghost use Rattle.wire.specs.Bounds.{lineRoom, answersRoom, Bounded, Settled};
 
 const LF: u8 = 10;
-
-const ARENA: usize = 65_536;
 
 // The bytes taken by one read, at most.
 const INPUT: usize = 65_536;

@@ -2,11 +2,12 @@
 use Prim.Native.Nat.{_≤_, _+_, _-_}
 use lib.ListN.{length}
 use borrow.Author.Needs.{needs}
+use Rattle.frame.specs.Wire.{longest}
 use Rattle.replay.proofs.replay.Statement.{statement}
 use Rattle.replay.proofs.replay.Tie as tie
 
 abbrev Inv-loop : tie.InvT-loop
-Inv-loop text arena₀ reply₀ t₀ from₀ arena reply t from = (t .at ≤ t .len) × (t .len ≤ 71715)
+Inv-loop text arena₀ reply₀ t₀ from₀ arena reply t from = (t .at ≤ t .len) × (t .len ≤ longest)
 
 abbrev μ-loop : tie.MeasureT-loop
 μ-loop text arena₀ reply₀ t₀ from₀ arena reply t from = length text + 1 - from
