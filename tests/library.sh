@@ -4,6 +4,6 @@ need_library() {
     local library=$1/target/staticlib/libc_box.a
     if [ ! -f "$library" ] || [ -n "$(find "$1/crates" "$1/crates.txt" -newer "$library" -type f -print -quit)" ]; then
         # what it builds on first: `rt check` proves rooms side by side, `rt staticlib` one after the other
-        (cd "$1" && rt check $(sed -n 's/^c_box: *//p' crates.txt) >&2 && rt staticlib c_box >&2)
+        (cd "$1" && RT_JOBS="${RT_JOBS:-4}" rt check $(sed -n 's/^c_box: *//p' crates.txt) >&2 && rt staticlib c_box >&2)
     fi
 }
