@@ -618,18 +618,18 @@ fn bench(calls: usize) {
     for (name, holes) in [("mixed", 500), ("deep", 500), ("mixed", 50), ("mixed", 1000), ("full", 50), ("full", 500), ("full", 2048)] {
         let (first, turns) = trace(name, calls, holes);
         let (mut a, mut b, mut r) = (Vec::new(), Vec::new(), Vec::new());
-        let (mut left, mut looked) = (0, 0.0);
+        let (mut left, mut looked) = (0, String::new());
         for _ in 0..9 {
             let x = side("original", &first, &turns, &mut memory, &mut space);
             let y = side("ours", &first, &turns, &mut memory, &mut space);
             same("bench", (x.1.sum, x.1.grants, x.2), (y.1.sum, y.1.grants, y.2));
             left = x.2;
-            looked = y.1.looked as f64 / y.1.grants as f64;
+            looked = if y.1.grants == 0 { "no grant".into() } else { format!("{:.0}", y.1.looked as f64 / y.1.grants as f64) };
             a.push(x.0 as f64 / calls as f64);
             b.push(y.0 as f64 / calls as f64);
             r.push(y.0 as f64 / x.0 as f64);
         }
-        println!("{name:6} {left:5}  {looked:19.0}  {:16.1}  {:12.1}  {:5.2}", median(a), median(b), median(r));
+        println!("{name:6} {left:5}  {looked:>19}  {:16.1}  {:12.1}  {:5.2}", median(a), median(b), median(r));
     }
 }
 
