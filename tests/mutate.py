@@ -1,5 +1,5 @@
 #!/usr/bin/env python3
-"""A trial of the definitions of crate rules: one place is changed at a time, and the crate checked again.
+"""A trial of the definitions of crate rules: one place is changed at a time, and the crate checked again, then crate demands over it.
 
 A mutant that is still proved either means the same as the definition, or shows a statement that is too weak.
 
@@ -197,32 +197,36 @@ def sample(found, count, seed):
     return queue if count == 0 else queue[:count], queue[count:] if count else []
 
 
-def copied(repo, crate):
-    os.mkdir(crate)
-    for part in ("src", "specs", "proofs"):
-        shutil.copytree(os.path.join(repo, "crates/rules", part), os.path.join(crate, part))
+def copied(repo, room):
+    """A repository of crates rules and demands alone."""
+    for name in ("rules", "demands"):
+        for part in ("src", "specs", "proofs"):
+            shutil.copytree(os.path.join(repo, "crates", name, part), os.path.join(room, "crates", name, part))
+    with open(os.path.join(room, "crates.txt"), "w") as out:
+        out.write("rules:\ndemands: rules\n")
+    return os.path.join(room, "crates/rules")
 
 
-def checked(crate, *words):
-    run = subprocess.run(["rt", "check", crate, *words], capture_output=True, text=True)
+def checked(room, *words):
+    run = subprocess.run(["rt", "check", *words], capture_output=True, text=True, cwd=room)
     said = run.stdout + run.stderr
     first = next((line for line in said.split("\n") if ": error" in line), "")
     if run.returncode == 0 and "logic=proved" in said:
         return "survived", ""
-    return ("refused" if "logic=not-proved" in said else "untold"), first.replace(crate + "/", "")[:240]
+    return ("refused" if "logic=not-proved" in said else "untold"), re.sub(r"^.*/crates/(rules/)?", "", first)[:240]
 
 
 def tried(repo, known, m, source):
-    """The verdict on a mutant. What does not depend on the change is taken from the check of the crate as it is; a survivor is checked whole."""
+    """The verdict on a mutant. What does not depend on the change is taken from the check of the crate as it is; a survivor is checked whole,
+    and the demands over it."""
     with tempfile.TemporaryDirectory() as room:
-        crate, own = os.path.join(room, "rules"), os.path.join(room, "known")
-        copied(repo, crate)
+        crate, own = copied(repo, room), os.path.join(room, "known")
         shutil.copytree(known, own)
         with open(os.path.join(crate, f"specs/{m.file}.antt"), "w") as out:
             out.write(m.text(source))
-        verdict, first = checked(crate, "--incremental", own)
+        verdict, first = checked(room, crate, "--incremental", own)
         if verdict == "survived":
-            verdict, first = checked(crate)
+            verdict, first = checked(room, "demands")
         return ("void" if first.startswith(f"specs/{m.file}.antt") else verdict), first
 
 
@@ -251,10 +255,9 @@ def main():
         print(f"{len(found)} mutants of {len({(m.file, m.name) for m in found})} definitions")
         return 0
     room = tempfile.TemporaryDirectory()
-    copied(given.repo, os.path.join(room.name, "rules"))
-    known = os.path.join(room.name, "known")
+    crate, known = copied(given.repo, room.name), os.path.join(room.name, "known")
     os.mkdir(known)
-    verdict, first = checked(os.path.join(room.name, "rules"), "--incremental", known)
+    verdict, first = checked(room.name, crate, "--incremental", known)
     if verdict != "survived":
         print(f"the crate as it is: {verdict}: {first}")
         return 2

@@ -26,10 +26,6 @@ pub mod Clear
 -- the order of the tests, and what each call comes to behind them
 pub mod Decide
 pub mod Calls
--- crates weighed by hand
-pub mod Weighed
--- what the port leaves out
-pub mod LeftOut
 -- the demands: soundness, what the bytes hold and the tests in the paper's words
 pub mod SoundWords
 pub mod HoldWords
@@ -58,27 +54,3 @@ pub mod SoundKept
 pub mod MemoryWords
 -- all that is said of the calls
 pub mod Statements
--- demand 3: runs
-pub mod RunLaws
--- demand 3: held blocks
-pub mod Tiling
-pub mod HeldKept
-pub mod HeldRuns
--- the premises can be met
-pub mod Played
-pub mod Premises
--- what the demands fix is one thing: a heap, its holes, its memory, a row
-pub mod OneHeap
-pub mod OneList
-pub mod OneMemory
-pub mod OneRow
--- two behaviours that meet the statements: the tests that all calls share, and what comes of each call
-pub mod Verdict
-pub mod Settles
-pub mod Determined
--- the frauds
-pub mod Caught
-pub mod Shown
-pub mod Frauds
--- all of the demands
-pub mod Demands

@@ -18,18 +18,9 @@ pub mod Readers
 pub mod Refusals
 pub mod Answers
 pub mod Outcome
--- crates weighed by hand
-pub mod Weighed
--- what the port leaves out of the original, and that it is harmless
-pub mod LeftOut
 -- the demands: the paper's words as statements
 pub mod InWords
 pub mod Runs
 -- what a box does, as one value, and what is said of it call by call
 pub mod Behaviour
 pub mod Statements
--- the frauds that it shuts out
-pub mod Frauds
--- that their premises can be met
-pub mod Premises
-pub mod Demands

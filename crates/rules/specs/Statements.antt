@@ -1,5 +1,5 @@
 -- The demands, each as a statement under the user's sentence or the paper's. Those of the calls are of any behaviour b: ours meets them
--- (proofs/Statements.antt), and two that meet them do the same. Those of runs are of ours. specs/Demands.antt gathers them.
+-- (proofs/Statements.antt), and two that meet them do the same. Those of runs are of ours. specs/Demands.antt of crate demands gathers them.
 use mathlib.Core.Path.{_≡_}
 use mathlib.Core.Bool.{true, cond}
 use mathlib.Core.List.{List, [], _∷_, _++_, List·Memᴰ}

@@ -4,25 +4,25 @@ use mathlib.Core.List.{List}
 use Prim.Native.Nat.{ℕ, _-_, _≤_, min}
 use native.Mathlib.Omega.{arith}
 use lib.ListN.{length}
 use Rattle.rules.specs.declared.Hole.{Hole}
 use Rattle.rules.specs.declared.Heap.{Heap}
 use Rattle.rules.specs.declared.Refusal.{Refusal}
 use Rattle.rules.specs.declared.Refusal.the-variants.{BadOpening, Opened, Unopened, OtherLength, NotSound, BadLayout, NoRoom, BadSpan, PastArena}
 use Rattle.rules.specs.declared.Answer.{Answer}
 use Rattle.rules.specs.declared.Answer.the-variants.{Opening, Allocated, Freed, Extended, Listed, Room, Refused}
 use Rattle.rules.specs.Kinds.{addr, place}
 use Rattle.rules.specs.Calls.{Call, opening, allocate, free, extend, list, room, Outcome, refused, told, done}
 use Rattle.rules.specs.Outcome.{After, Rows}
 use Rattle.rules.specs.InWords.{SoundNumbers, Hold}
 use Rattle.rules.specs.Runs.{Fits, Reader}
 use Rattle.rules.specs.Behaviour.{Behaviour}
 use Rattle.rules.specs.Statements.{SoundMeans, RefusalNumbers, UnopenedIs, Reads, ReadersDo, Statements, Determined}
 use Rattle.rules.proofs.Cases.{by-eq, iff}
 use Rattle.rules.proofs.Words.{Bytes}
-use Rattle.rules.proofs.OneMemory.{one-memory}
-use Rattle.rules.proofs.OneRow.{one-row}
-use Rattle.rules.proofs.Verdict.{same-holes, entry}
-use Rattle.rules.proofs.Settles.{noRows, settled}
+use Rattle.demands.proofs.OneMemory.{one-memory}
+use Rattle.demands.proofs.OneRow.{one-row}
+use Rattle.demands.proofs.Verdict.{same-holes, entry}
+use Rattle.demands.proofs.Settles.{noRows, settled}
 
 -- ---- numbers
 

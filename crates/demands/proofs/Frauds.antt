@@ -6,21 +6,21 @@ use mathlib.Core.Logic.{⊎-elim}
 use Prim.Native.Nat.{ℕ, _+_}
 use native.Mathlib.Omega.{arith}
 use lib.ListN.{length, getD}
 use Rattle.rules.specs.declared.Addr.{Addr}
 use Rattle.rules.specs.declared.Hole.{Hole}
 use Rattle.rules.specs.declared.Refusal.the-variants.{OtherLength}
 use Rattle.rules.specs.Kinds.{addr}
 use Rattle.rules.specs.Holes.{hole}
 use Rattle.rules.specs.Sound.{unopened}
 use Rattle.rules.specs.Calls.{allocate, extend, list, room}
 use Rattle.rules.specs.Outcome.{After}
-use Rattle.rules.specs.Frauds.{Frauds}
+use Rattle.demands.specs.Frauds.{Frauds}
 use Rattle.rules.proofs.SoundWords.{rounds-rounded}
-use Rattle.rules.proofs.Premises.{half}
-use Rattle.rules.proofs.Settles.{noRows}
-use Rattle.rules.proofs.Determined.{by-outcome}
-use Rattle.rules.proofs.Caught.{refused-of, not-swapped, tested, granting, used-one}
-use Rattle.rules.proofs.Shown.{stage, stage-bytes, more, opens, shown, does, says, asked, askedMore, two, askedFree, saysFreed, empties, one, grantsAgain, saysOpen}
+use Rattle.demands.proofs.Premises.{half}
+use Rattle.demands.proofs.Settles.{noRows}
+use Rattle.demands.proofs.Determined.{by-outcome}
+use Rattle.demands.proofs.Caught.{refused-of, not-swapped, tested, granting, used-one}
+use Rattle.demands.proofs.Shown.{stage, stage-bytes, more, opens, shown, does, says, asked, askedMore, two, askedFree, saysFreed, empties, one, grantsAgain, saysOpen}
 
 pub frauds : Frauds
 frauds =

@@ -5,30 +5,30 @@ use Prim.Native.Nat.{ℕ, _+_, _^_, _≤_, _<_}
 use native.Mathlib.Omega.{arith}
 use lib.Count.{onesIn}
 use lib.ListN.{getD, replicate, getD-replicate}
 use Rattle.rules.specs.declared.Hole.{Hole}
 use Rattle.rules.specs.declared.Heap.{Heap}
 use Rattle.rules.specs.declared.Refusal.{Refusal}
 use Rattle.rules.specs.declared.Answer.{Answer}
 use Rattle.rules.specs.Kinds.{addr, place}
 use Rattle.rules.specs.Words.{word, store}
 use Rattle.rules.specs.Holes.{hole, headAt, putHead, holesFrom, firstOf, putHeads, total, largest}
 use Rattle.rules.specs.Sound.{unopened, soundNumbers, gap, lie, rise, leaveBefore, leaveAfter, soundHoles, sound, holes}
 use Rattle.rules.specs.Allocate.{rounded, candidate, suits, later, find, remains, split}
 use Rattle.rules.specs.Free.{inFront, freed, overlaps, eightToHole}
 use Rattle.rules.specs.Calls.{allocate, refused, done, opened, taken, given, grown, gathered, extended, accepted}
 use Rattle.rules.specs.Readers.{readAddr}
 use Rattle.rules.specs.Refusals.{tests, unless}
 use Rattle.rules.specs.Outcome.{decided, outcome, leaves, after, over, inRows, leavesRows, rowsAfter}
 use Rattle.rules.specs.InWords.{Valid}
 use Rattle.rules.specs.Behaviour.{ours, Good}
 use Rattle.rules.specs.Runs.{reading, Ask, Honest, start, sameBlock, without, heldAfter, boxAfter, nextBox, ends}
-use Rattle.rules.specs.Premises.{lent, story, unlike, writes, Boxes, OnGood, Met}
+use Rattle.demands.specs.Premises.{lent, story, unlike, writes, Boxes, OnGood, Met}
 use Rattle.rules.proofs.Cases.{apart}
 use Rattle.rules.proofs.Multiples.{down-is}
 use Rattle.rules.proofs.SoundWords.{rounded-rounds, is-left, words-numbers, sound-words, words-sound}
 use Rattle.rules.proofs.TestWords.{no-start, no-span}
 use Rattle.rules.proofs.Suits.{nothing-room, found-room}
-use Rattle.rules.proofs.Played.{agree, headsAgree, keeps-kept, Move, moveOf, stirred, lawful, play}
+use Rattle.demands.proofs.Played.{agree, headsAgree, keeps-kept, Move, moveOf, stirred, lawful, play}
 
 -- ---- two boxes
 

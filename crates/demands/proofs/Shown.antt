@@ -6,30 +6,30 @@ use Prim.Native.Nat.{ℕ, _+_, _<_}
 use native.Mathlib.Omega.{arith}
 use lib.Count.{onesIn}
 use lib.ListN.{length, getD-replicate, List·getD-eq-default}
 use Rattle.rules.specs.declared.Heap.{Heap}
 use Rattle.rules.specs.declared.Answer.{Answer}
 use Rattle.rules.specs.declared.Answer.the-variants.{Opening, Allocated, Freed, Extended, Listed, Room}
 use Rattle.rules.specs.Kinds.{addr}
 use Rattle.rules.specs.Words.{word, store}
 use Rattle.rules.specs.Holes.{hole, headAt, putHead, holesFrom, firstOf, putHeads, total, largest}
 use Rattle.rules.specs.Sound.{unopened, soundNumbers, gap, lie, rise, leaveBefore, leaveAfter, soundHoles, sound, holes}
 use Rattle.rules.specs.Allocate.{rounded, candidate, suits, later, find, remains, split}
 use Rattle.rules.specs.Free.{inFront, freed, overlaps, eightToHole}
 use Rattle.rules.specs.Calls.{Call, opening, allocate, free, extend, list, room, opened, taken, given, grown, gathered, extended, accepted}
 use Rattle.rules.specs.Refusals.{tests, unless}
 use Rattle.rules.specs.Outcome.{decided, outcome, leaves, After, after}
 use Rattle.rules.specs.InWords.{Sound}
 use Rattle.rules.specs.Runs.{Fits}
 use Rattle.rules.specs.Behaviour.{Behaviour, ours}
 use Rattle.rules.specs.Statements.{Statements, Same}
-use Rattle.rules.specs.Frauds.{Asked}
+use Rattle.demands.specs.Frauds.{Asked}
 use Rattle.rules.proofs.Cases.{by-le}
 use Rattle.rules.proofs.Words.{Bytes}
 use Rattle.rules.proofs.Lists.{putHeads-bytes}
 use Rattle.rules.proofs.SoundWords.{sound-words}
 use Rattle.rules.proofs.Statements.{statements}
-use Rattle.rules.proofs.Premises.{noise, half, halves}
-use Rattle.rules.proofs.Determined.{determined}
+use Rattle.demands.proofs.Premises.{noise, half, halves}
+use Rattle.demands.proofs.Determined.{determined}
 
 -- the memory of the heap that is half free
 abbrev pub stage : List ℕ

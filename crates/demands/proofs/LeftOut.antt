@@ -7,21 +7,21 @@ use Prim.Native.Nat.{ℕ, _+_, _-_, _%_, _≤_}
 use native.Mathlib.Omega.{arith}
 use lib.Dec.{ltb}
 use borrow.Author.Tests.{ltb-false, lt-ltb, le-ltb}
 use Rattle.rules.specs.declared.Addr.{Addr}
 use Rattle.rules.specs.declared.Hole.{Hole}
 use Rattle.rules.specs.declared.Heap.{Heap}
 use Rattle.rules.specs.Fixed.{minSize, grain}
 use Rattle.rules.specs.Tests.{any}
 use Rattle.rules.specs.Kinds.{raised}
 use Rattle.rules.specs.Holes.{end}
 use Rattle.rules.specs.Sound.{soundNumbers, sound}
 use Rattle.rules.specs.Refusals.{refusal8}
-use Rattle.rules.specs.LeftOut.{checkMergeTop, checkMergeBottom, Harmless}
+use Rattle.demands.specs.LeftOut.{checkMergeTop, checkMergeBottom, Harmless}
 use Rattle.rules.specs.InWords.{Gap}
 use Rattle.rules.proofs.Gaps.{eights-gap}
 use Rattle.rules.proofs.Walk.{sound-fair}
 use Rattle.rules.proofs.Clear.{passed}
 use Rattle.rules.proofs.SoundWords.{sound-words}
 
 -- ---- by where the hole lies
 

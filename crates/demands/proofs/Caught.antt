@@ -6,32 +6,32 @@ use Prim.Native.Nat.{ℕ, _+_, _-_, _≤_}
 use native.Mathlib.Omega.{arith}
 use lib.Dec.{ltb}
 use lib.ListN.{length}
 use Rattle.rules.specs.declared.Addr.{Addr}
 use Rattle.rules.specs.declared.Hole.{Hole}
 use Rattle.rules.specs.declared.Heap.{Heap}
 use Rattle.rules.specs.declared.Refusal.{Refusal}
 use Rattle.rules.specs.declared.Refusal.the-variants.{Opened, OtherLength, NotSound}
 use Rattle.rules.specs.declared.Answer.the-variants.{Allocated, Refused}
 use Rattle.rules.specs.Fixed.{minSize}
 use Rattle.rules.specs.Tests.{any}
 use Rattle.rules.specs.Kinds.{addr}
 use Rattle.rules.specs.Sound.{holes}
 use Rattle.rules.specs.Allocate.{rounded, Found, nothing, found, find}
 use Rattle.rules.specs.Calls.{Call, opening, allocate, free, extend, list, room, Outcome, refused, told, done, taken, given, gathered, grown, extended, accepted}
 use Rattle.rules.specs.Refusals.{Test, tests, unless}
 use Rattle.rules.specs.Outcome.{decided, outcome}
 use Rattle.rules.specs.InWords.{SoundHoles, Rounds, sum, Lies, RoomAt}
 use Rattle.rules.specs.Runs.{Fits}
 use Rattle.rules.specs.Behaviour.{Behaviour, ours}
 use Rattle.rules.specs.Statements.{Granted, Statements, refusalsOf}
-use Rattle.rules.specs.Frauds.{Grant, UsedHole}
+use Rattle.demands.specs.Frauds.{Grant, UsedHole}
 use Rattle.rules.proofs.Cases.{by-test, by-eq}
 use Rattle.rules.proofs.TestWords.{no-layout}
 use Rattle.rules.proofs.Statements.{statements}
-use Rattle.rules.proofs.OneList.{one-place}
-use Rattle.rules.proofs.Verdict.{entry, Before}
-use Rattle.rules.proofs.Settles.{decide, valid, by-room, settled, noRows}
-use Rattle.rules.proofs.Determined.{by-outcome}
+use Rattle.demands.proofs.OneList.{one-place}
+use Rattle.demands.proofs.Verdict.{entry, Before}
+use Rattle.demands.proofs.Settles.{decide, valid, by-room, settled, noRows}
+use Rattle.demands.proofs.Determined.{by-outcome}
 
 -- ---- a refusal
 

@@ -8,31 +8,31 @@ use native.Mathlib.Omega.{arith}
 use lib.Dec.{ltb}
 use lib.ListN.{length, getD}
 use borrow.Author.Tests.{eqb-true, not-false}
 use Rattle.rules.specs.declared.Addr.{Addr}
 use Rattle.rules.specs.declared.Hole.{Hole}
 use Rattle.rules.specs.declared.Heap.{Heap}
 use Rattle.rules.specs.Fixed.{minSize}
 use Rattle.rules.specs.Kinds.{addr, same}
 use Rattle.rules.specs.Sound.{holes}
 use Rattle.rules.specs.Allocate.{rounded, Found, nothing, found, find}
 use Rattle.rules.specs.Calls.{Call, opening, allocate, free, extend, list, room, Outcome, refused, told, done, taken, given, grown, gathered, extended, accepted}
 use Rattle.rules.specs.Refusals.{tests, unless}
 use Rattle.rules.specs.Outcome.{decided, outcome, after, Rows}
 use Rattle.rules.specs.InWords.{endOf, Sound, NoSpan}
 use Rattle.rules.specs.Runs.{Fits, Ask, calls, reads, AllFit, Block, Box, start, comesTo, boxAfter, nextBox, ends}
 use Rattle.rules.specs.Statements.{Occupied, Tiles, HeldTile, HeldIsFreed, HeldUntouched}
 use Rattle.rules.proofs.Cases.{by-le, by-test, or-left}
 use Rattle.rules.proofs.Layouts.{rounded-least}
 use Rattle.rules.proofs.SoundWords.{rounded-rounds}
 use Rattle.rules.proofs.TestWords.{means-fails, no-span}
 use Rattle.rules.proofs.Good.{sound-decided, valid-passes}
 use Rattle.rules.proofs.Passes.{Passes, by-decided}
 use Rattle.rules.proofs.SoundKept.{sound-kept}
 use Rattle.rules.proofs.MemoryWords.{memory}
 use Rattle.rules.proofs.Unaltered.{refusals-keep, tells-only}
-use Rattle.rules.proofs.RunLaws.{kept-holes, follows-from-calls, never-unsound}
-use Rattle.rules.proofs.Tiling.{span, spans, range, parts, filled-fills, filled-apart, filled-tiles, fills-inside, no-eight-between, no-eight-before, no-eight-behind}
-use Rattle.rules.proofs.HeldKept.{Settled, start-settled, ends-settled}
+use Rattle.demands.proofs.RunLaws.{kept-holes, follows-from-calls, never-unsound}
+use Rattle.demands.proofs.Tiling.{span, spans, range, parts, filled-fills, filled-apart, filled-tiles, fills-inside, no-eight-between, no-eight-before, no-eight-behind}
+use Rattle.demands.proofs.HeldKept.{Settled, start-settled, ends-settled}
 
 pub held-tile : HeldTile
 held-tile asks f t = filled-tiles (ends asks start) (ends-settled asks start f t start-settled .filled)

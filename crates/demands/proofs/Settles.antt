@@ -6,29 +6,29 @@ use mathlib.Core.Logic.{inl, inr, ⊎-elim}
 use Prim.Native.Nat.{ℕ, _+_, _^_, _≤_, _<_}
 use native.Mathlib.Omega.{arith}
 use lib.ListN.{length}
 use Rattle.rules.specs.declared.Addr.{Addr}
 use Rattle.rules.specs.declared.Hole.{Hole}
 use Rattle.rules.specs.declared.Heap.{Heap}
 use Rattle.rules.specs.declared.Answer.{Answer}
 use Rattle.rules.specs.Fixed.{grain}
 use Rattle.rules.specs.Round.{Power, downTo}
 use Rattle.rules.specs.Allocate.{rounded, candidate, find}
 use Rattle.rules.specs.Calls.{Call, opening, allocate, free, extend, list, room, Outcome, done}
 use Rattle.rules.specs.Outcome.{Rows}
 use Rattle.rules.specs.InWords.{SoundHoles, Valid, RoomAt, NoLayout}
 use Rattle.rules.specs.Runs.{Fits}
 use Rattle.rules.specs.Behaviour.{Behaviour}
 use Rattle.rules.specs.Statements.{Granted, Joined, Statements}
 use Rattle.rules.proofs.Cases.{cases, by-eq, by-le, apart}
 use Rattle.rules.proofs.Multiples.{down-is}
 use Rattle.rules.proofs.Powers.{power-pos, grain-power}
 use Rattle.rules.proofs.SoundWords.{rounded-rounds, is-left}
 use Rattle.rules.proofs.TestWords.{Means, means-power, no-start, no-layout, no-span}
 use Rattle.rules.proofs.Suits.{by-found, nothing-room, found-room}
-use Rattle.rules.proofs.OneHeap.{one-heap}
-use Rattle.rules.proofs.OneList.{one-list, one-place}
-use Rattle.rules.proofs.OneRow.{one-largest}
-use Rattle.rules.proofs.Verdict.{entry}
+use Rattle.demands.proofs.OneHeap.{one-heap}
+use Rattle.demands.proofs.OneList.{one-list, one-place}
+use Rattle.demands.proofs.OneRow.{one-largest}
+use Rattle.demands.proofs.Verdict.{entry}
 
 -- ---- what can be told apart
 
