@@ -1,5 +1,5 @@
 //! A safe Rust face of Leanlantern: a box that owns its seven words and borrows its arena. Link it with the static library that
-//! `rt staticlib c_box` writes (`-L target/staticlib -l static=c_box`).
+//! `tests/library.sh` writes (`-L target/staticlib -l static=leanlantern`).
 
 mod c {
     extern "C" {

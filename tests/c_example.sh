@@ -6,6 +6,6 @@ root=$(cd "$(dirname "$0")/.." && pwd)
 need_library "$root"
 work=$(mktemp -d)
 trap 'rm -rf "$work"' EXIT
-cc -std=c99 -pedantic -Wall -Wextra -Werror -O2 "$root/tests/c_example.c" "$root/target/staticlib/libc_box.a" -o "$work/c_example"
+cc -std=c99 -pedantic -Wall -Wextra -Werror -O2 "$root/tests/c_example.c" "$root/target/staticlib/libleanlantern.a" -o "$work/c_example"
 "$work/c_example"
 echo "c_example: every line as the paper gives it"

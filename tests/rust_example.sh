@@ -6,6 +6,6 @@ root=$(cd "$(dirname "$0")/.." && pwd)
 need_library "$root"
 work=$(mktemp -d)
 trap 'rm -rf "$work"' EXIT
-rustc --edition 2021 -O -D warnings "$root/tests/rust_example.rs" -L "$root/target/staticlib" -l static=c_box -o "$work/rust_example"
+rustc --edition 2021 -O -D warnings "$root/tests/rust_example.rs" -L "$root/target/staticlib" -l static=leanlantern -o "$work/rust_example"
 "$work/rust_example"
 echo "rust_example: every line as the paper gives it"

@@ -6,5 +6,5 @@ root=$(cd "$(dirname "$0")/.." && pwd)
 need_library "$root"
 work=$(mktemp -d)
 trap 'rm -rf "$work"' EXIT
-rustc --edition 2021 -O -D warnings "$root/tests/sealed.rs" -L "$root/target/staticlib" -l static=c_box -o "$work/sealed"
+rustc --edition 2021 -O -D warnings "$root/tests/sealed.rs" -L "$root/target/staticlib" -l static=leanlantern -o "$work/sealed"
 "$work/sealed"

@@ -14,7 +14,7 @@ work=$(mktemp -d)
 trap 'rm -rf "$work"' EXIT
 build_original "$original" "$work/liblinked_list_allocator.rlib"
 rustc --edition 2021 -O "$here/main.rs" --extern "linked_list_allocator=$work/liblinked_list_allocator.rlib" \
-    -L "$root/target/staticlib" -l static=c_box -o "$work/against"
+    -L "$root/target/staticlib" -l static=leanlantern -o "$work/against"
 "$work/against" bench 100000
 command -v valgrind >/dev/null 2>&1 || exit 0
 count() { valgrind --tool=callgrind --callgrind-out-file=/dev/null "$work/against" trace "$1" "$2" "$3" 2>&1 | sed -n 's/.*Collected : //p'; }

@@ -37,7 +37,7 @@ build_against() {
     mkdir "$work/$1"
     build_original "$original" "$work/$1/liblinked_list_allocator.rlib" "${2:-}"
     rustc --edition 2021 -O "$here/main.rs" --extern "linked_list_allocator=$work/$1/liblinked_list_allocator.rlib" \
-        -L "$root/target/staticlib" -l static=c_box -o "$work/$1/against"
+        -L "$root/target/staticlib" -l static=leanlantern -o "$work/$1/against"
 }
 
 build_against true

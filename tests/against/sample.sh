@@ -17,7 +17,7 @@ work=$(mktemp -d)
 trap 'rm -rf "$work"' EXIT
 build_original "$original" "$work/liblinked_list_allocator.rlib"
 rustc --edition 2021 -O "$here/main.rs" --extern "linked_list_allocator=$work/liblinked_list_allocator.rlib" \
-    -L "$root/target/staticlib" -l static=c_box -o "$work/against"
+    -L "$root/target/staticlib" -l static=leanlantern -o "$work/against"
 "$work/against" sample 2026 1500 >"$work/list"
 lines=$(grep -c '^=' "$work/list")
 if [ -n "$write" ]; then

@@ -1,9 +1,9 @@
--- `c_box::lantern_free_bytes` meets its contract: it is `readers::free_bytes` on the heap that the words say. Assumes nothing.
+-- `c_readers::lantern_free_bytes` meets its contract: it is `readers::free_bytes` on the heap that the words say. Assumes nothing.
 use borrow.Author.Needs.{needs}
 use Rattle.rules.specs.Readers.{freeOf}
-use Rattle.c_box.proofs.Shown.{read-of}
-use Rattle.c_box.proofs.lantern_free_bytes.Statement.{statement}
-use Rattle.c_box.proofs.lantern_free_bytes.Tie as tie
+use Rattle.words.proofs.Loaded.{read-of}
+use Rattle.c_readers.proofs.lantern_free_bytes.Statement.{statement}
+use Rattle.c_readers.proofs.lantern_free_bytes.Tie as tie
 
 load-requires : tie.Need-load-requires
 load-requires c κs = search needs

@@ -1,9 +1,9 @@
--- `c_box::lantern_used` meets its contract: it is `readers::used` on the heap that the words say. Assumes nothing.
+-- `c_readers::lantern_used` meets its contract: it is `readers::used` on the heap that the words say. Assumes nothing.
 use borrow.Author.Needs.{needs}
 use Rattle.rules.specs.Readers.{usedOf}
-use Rattle.c_box.proofs.Shown.{read-of}
-use Rattle.c_box.proofs.lantern_used.Statement.{statement}
-use Rattle.c_box.proofs.lantern_used.Tie as tie
+use Rattle.words.proofs.Loaded.{read-of}
+use Rattle.c_readers.proofs.lantern_used.Statement.{statement}
+use Rattle.c_readers.proofs.lantern_used.Tie as tie
 
 load-requires : tie.Need-load-requires
 load-requires c κs = search needs

@@ -1,9 +1,9 @@
--- `c_box::lantern_room` meets its contract: it is `heap::room` on the heap that the words say. Assumes nothing.
+-- `c_reports::lantern_room` meets its contract: it is `reports::room` on the heap that the words say. Assumes nothing.
 use borrow.Author.Needs.{needs}
 use Rattle.rules.specs.Calls.{room}
-use Rattle.c_box.proofs.Shown.{reported}
-use Rattle.c_box.proofs.lantern_room.Statement.{statement}
-use Rattle.c_box.proofs.lantern_room.Tie as tie
+use Rattle.c_reports.proofs.Reported.{reported}
+use Rattle.c_reports.proofs.lantern_room.Statement.{statement}
+use Rattle.c_reports.proofs.lantern_room.Tie as tie
 
 load-requires : tie.Need-load-requires
 load-requires c κs = search needs

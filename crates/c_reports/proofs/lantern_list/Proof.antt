@@ -1,11 +1,12 @@
--- `c_box::lantern_list` meets its contract: it is `heap::list` on the heap that the words say, and on the same rows. Assumes nothing.
+-- `c_reports::lantern_list` meets its contract: it is `reports::list` on the heap that the words say, and on the same rows. Assumes nothing.
 use borrow.Author.Needs.{needs}
 use Rattle.rules.specs.Calls.{list}
 use Rattle.rules.specs.Outcome.{rowsAfter}
 use Rattle.reports.specs.Reports.{rows}
-use Rattle.c_box.proofs.Shown.{reported, read-of}
-use Rattle.c_box.proofs.lantern_list.Statement.{statement}
-use Rattle.c_box.proofs.lantern_list.Tie as tie
+use Rattle.words.proofs.Loaded.{read-of}
+use Rattle.c_reports.proofs.Reported.{reported}
+use Rattle.c_reports.proofs.lantern_list.Statement.{statement}
+use Rattle.c_reports.proofs.lantern_list.Tie as tie
 
 load-requires : tie.Need-load-requires
 load-requires c κs = search needs
