@@ -25,9 +25,11 @@ use Rattle.rules.proofs.Lists.{firstOr, first-or, first-append, Holds, holds-sp
 use Rattle.rules.proofs.Relink.{put-append, before-stands, relink}
 use Rattle.rules.proofs.Used.{candidate-low, suits-fits, suits-leaves, used-rises, find-total}
 use Rattle.cursor.specs.Walk.{Asked, startOf}
+use Rattle.fitting.specs.FirstFit.{searchOf}
 use Rattle.fitting.specs.declared.Fit.{Fit}
+use Rattle.fitting.specs.declared.Search.the-variants as search
 use Rattle.cursor.proofs.Passed.{lastPlace}
-use Rattle.fitting.proofs.ToFit.{Fits}
+use Rattle.fitting.proofs.ToFit.{Fits, fit-at}
 use Rattle.hole_list.specs.Settled.{Settled, leadingTo, linkedHeap, linkedArena}
 use Rattle.hole_list.proofs.Linked.{last-inside, linked-arena, linked-heap}
 use Rattle.hole_list.proofs.Stands.{stands}
@@ -114,7 +116,14 @@ module _
         (linked-heap h (h .bottom .0) (h .top .0) front (k ∷ back) (firstOf base ks) (fair .bottom) (omega arith)
         (front-rises (h .bottom .0) (h .top .0) front (k ∷ back) rises) first)
 
--- ---- the hole that the search found on a sound heap
+-- ---- the hole that the search found
+
+-- where it lies among the holes
+pub found : (h : Heap) (m : List ℕ) (want align : ℕ) {f : Fit}
+    → searchOf h want align (startOf h) none 0 0 (holes h m) ≡ search.At f → Fits h want align (startOf h) none 0 0 (holes h m) f
+found h m want align at = fit-at h want align (startOf h) none 0 0 (holes h m) at
+
+-- ---- on a sound heap
 
 -- the sums and the tests of the code
 pub record Room (h : Heap) (len want align : ℕ) (f : Fit) : Type 0 where

@@ -1,11 +1,10 @@
--- `taking::split_current` meets its contract: the heads that it writes are those of the new list. Assumes nothing.
+-- `splitting::split_current` meets its contract: the heads that it writes are those of the new list. Assumes nothing.
 use native.Mathlib.Omega.{arith}
 use borrow.Author.Needs.{needs}
 use Rattle.rules.proofs.Lists.{putHeadsTo-length, putHeadsTo-bytes}
-use Rattle.taking.proofs.Allocation.{found}
-use Rattle.taking.proofs.Split.{room, split-is}
-use Rattle.taking.proofs.split_current.Statement.{statement}
-use Rattle.taking.proofs.split_current.Tie as tie
+use Rattle.splitting.proofs.Split.{found, room, split-is}
+use Rattle.splitting.proofs.split_current.Statement.{statement}
+use Rattle.splitting.proofs.split_current.Tie as tie
 
 candidate-requires : tie.Need-candidate-requires
 candidate-requires c κs =
