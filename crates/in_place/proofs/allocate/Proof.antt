@@ -36,10 +36,10 @@ use Rattle.rules.specs.Calls as Calls
 use Rattle.rules.specs.declared.Heap.{Heap as Numbers}
 use Rattle.rules.specs.declared.Done.{Done}
 use Rattle.rules.proofs.Heap as T
-use Rattle.heap.proofs.allocate as callee
-use Rattle.heap.proofs.allocate.Symbol as callee-def
-use Rattle.heap.proofs.allocate.Symbol.{name as #callee}
-use Rattle.heap.proofs.allocate.Met as callee-thm
+use Rattle.allocating.proofs.allocate as callee
+use Rattle.allocating.proofs.allocate.Symbol as callee-def
+use Rattle.allocating.proofs.allocate.Symbol.{name as #callee}
+use Rattle.allocating.proofs.allocate.Met as callee-thm
 use Rattle.in_place.proofs.allocate.Key.{name as #this}
 use Rattle.in_place.proofs.allocate as this
 use Rattle.in_place.proofs.allocate.Statement as stated

@@ -40,10 +40,10 @@ use Rattle.rules.specs.declared.Addr.{Addr}
 use Rattle.rules.proofs.Heap as T
 use Rattle.rules.proofs.Addr as P
 use Rattle.rules.proofs.Addr.Laws as P′
-use Rattle.heap.proofs.free as callee
-use Rattle.heap.proofs.free.Symbol as callee-def
-use Rattle.heap.proofs.free.Symbol.{name as #callee}
-use Rattle.heap.proofs.free.Met as callee-thm
+use Rattle.freeing.proofs.free as callee
+use Rattle.freeing.proofs.free.Symbol as callee-def
+use Rattle.freeing.proofs.free.Symbol.{name as #callee}
+use Rattle.freeing.proofs.free.Met as callee-thm
 use Rattle.in_place.proofs.free.Key.{name as #this}
 use Rattle.in_place.proofs.free as this
 use Rattle.in_place.proofs.free.Statement as stated

@@ -1,8 +1,8 @@
--- `heap::calls::refuse_sound` meets its contract: the walk decides between the two refusals. Assumes nothing.
+-- `hole_list::sums::refuse_sound` meets its contract: the walk decides between the two refusals. Assumes nothing.
 use mathlib.Core.Path.{sym, _∙_}
 use borrow.Author.Needs.{needs}
-use Rattle.heap.proofs.calls.refuse_sound.Statement.{statement}
-use Rattle.heap.proofs.calls.refuse_sound.Tie as tie
+use Rattle.hole_list.proofs.sums.refuse_sound.Statement.{statement}
+use Rattle.hole_list.proofs.sums.refuse_sound.Tie as tie
 
 is-sound-requires : tie.Need-is-sound-requires
 is-sound-requires c κs = c .before .pre

@@ -1,11 +1,28 @@
--- `heap::calls::extend` meets its contract: the tests in front refuse, or earn the call on the hole list what it asks. Assumes nothing.
-use Rattle.rules.specs.Calls.{extend}
-use Rattle.reports.proofs.Lends.{tested-fair}
-use Rattle.heap.proofs.Tested.{tested-no, extends}
+-- `extending::extend` meets its contract: the tests in front refuse, or earn the call on the hole list what it asks. Assumes nothing.
+use mathlib.Core.Path.{_≡_, refl}
+use mathlib.Core.List.{List}
+use Prim.Native.Nat.{ℕ}
+use lib.ListN.{length}
 use borrow.Author.Needs.{needs}
-use mathlib.Core.Path.{refl}
-use Rattle.heap.proofs.calls.extend.Statement.{statement}
-use Rattle.heap.proofs.calls.extend.Tie as tie
+use Rattle.rules.specs.Sound.{holes}
+use Rattle.rules.specs.Calls.{extend}
+use Rattle.rules.specs.Outcome.{leaves, after, Is}
+use Rattle.rules.specs.declared.Heap.{Heap}
+use Rattle.rules.specs.declared.Done.{Done}
+use Rattle.rules.proofs.Walk.{Fair, fair-sound}
+use Rattle.rules.proofs.Decide.{sifted, extending}
+use Rattle.rules.proofs.Calls.{is-left, extend-on}
+use Rattle.numbers.proofs.Verdicts.{tested-fair, tested-no}
+use Rattle.extending.proofs.extend.Statement.{statement}
+use Rattle.extending.proofs.extend.Tie as tie
+
+-- ---- what the call comes to, once the numbers keep their rules
+
+extends : (h : Heap) (m : List ℕ) → Fair h × (length m ≡ h .len) → (by : ℕ) {d : Done} {m′ : List ℕ}
+    → Is (leaves h m (sifted h (holes h m) (extending by h (holes h m)))) d m′ → Is (after (extend by) h m) d m′
+extends h m l by p = is-left (extend by) h m _ (extend-on h m (l .1) (fair-sound h (l .0)) by) p
+
+-- ---- the needs
 
 arena-len-requires : tie.Need-arena-len-requires
 arena-len-requires c κs = search needs
@@ -39,7 +56,7 @@ extend-requires c κs =
     let a = k .before in
     let s = a .before .before .before .before in
     let l = tested-fair (s .args .h) (s .args .arena .now) (a .before .arena-len .ensures .0) (a .check .ensures) (k .match .keys2) in
-    record { lent = l; bytes = a .before .arena-len .ensures .1 }
+    record { lent = record { fair = l .0; lent = l .1 }; bytes = a .before .arena-len .ensures .1 }
 
 same-length-2 : tie.Need-same-length-2
 same-length-2 c = search needs
