@@ -2,13 +2,12 @@
 //
 // No public function has a `requires`. Each tests its own input, refuses with the paper's number and
 // ensures, for any seven numbers and any bytes, what it answers, the heap that it hands back and the
-// entire arena that it leaves: those of `after`, the paper as a definition (crate rules). The five
-// readers are in crate readers.
-mod calls;
-
-pub use calls::allocate;
-pub use calls::extend;
-pub use calls::free;
+// entire arena that it leaves: those of `after`, the paper as a definition (crate rules). This crate
+// has no code of its own: it names the calls, each of which stands in its own crate. The five readers
+// are in crate readers.
+pub use allocating::allocate;
+pub use extending::extend;
+pub use freeing::free;
 pub use opening::empty;
 pub use opening::open;
 pub use reports::list;

@@ -10,3 +10,5 @@ pub mod Rest
 pub mod Stands
 -- an outcome that waits on the rules on the holes
 pub mod Sifted
+-- a request, by what its layout comes to
+pub mod Requests

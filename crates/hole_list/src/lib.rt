@@ -10,4 +10,5 @@ pub use heads::remain;
 pub use sums::adds_up;
 pub use sums::is_sound;
 pub use sums::refuse;
+pub use sums::refuse_sound;
 pub use sums::sums_up;

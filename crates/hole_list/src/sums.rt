@@ -7,6 +7,7 @@ use rules::Done;
 use rules::Heap;
 use rules::Refusal;
 ghost use mathlib.Core.Path.{_≡_};
+ghost use mathlib.Core.Bool.{cond};
 ghost use Prim.Native.Nat.{_+_};
 ghost use lib.Dec.{eqb};
 ghost use Rattle.rules.specs.Sound.{size, soundHoles, holes};
@@ -59,4 +60,15 @@ pub fn is_sound(h: Heap, arena: &[u8]) -> bool
 {
     let first = h.first;
     adds_up(h, walk(h, arena, first, first_floor(h), 0))
+}
+
+// A refusal that comes after 5: the holes are walked first.
+pub fn refuse_sound(h: Heap, arena: &[u8], r: Refusal) -> Done
+    requires { ⌜ Lent h (now arena) ⌝ }
+    ensures { λ d. ⌜ (d .answer ≡ Answer.Refused (cond (soundHoles h (holes h (now (arena .entry)))) r Refusal.NotSound)) × (d .heap ≡ h) ⌝ }
+{
+    if is_sound(h, arena) {
+        return refuse(h, r);
+    }
+    refuse(h, Refusal::NotSound)
 }

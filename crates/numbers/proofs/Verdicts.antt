@@ -1,22 +1,30 @@
 -- What `check` says of a heap's numbers and a length, test by test, and what a call comes to then. Assumes nothing.
-use mathlib.Core.Path.{_≡_}
+use mathlib.Core.Path.{_≡_, refl, sym, _∙_}
 use mathlib.Core.Bool.{true, false}
-use mathlib.Core.List.{List}
+use mathlib.Core.List.{List, [], _∷_}
 use Prim.Native.Nat.{ℕ}
 use native.Mathlib.Omega.{arith}
 use lib.ListN.{length}
+use denote.Enum.Declared.{tagOf}
+use types.Run.{OneOf}
 use borrow.Author.Tests.{eq-eqb, ne-eqb}
 use Rattle.rules.specs.Sound.{soundNumbers}
 use Rattle.rules.specs.Calls.{Call, refused}
-use Rattle.rules.specs.Outcome.{outcome}
+use Rattle.rules.specs.Outcome.{outcome, after, Is}
 use Rattle.rules.specs.declared.Heap.{Heap}
+use Rattle.rules.specs.declared.Done.{Done}
 use Rattle.rules.specs.declared.Refusal.{Refusal}
 use Rattle.rules.specs.declared.Refusal.the-variants.{Unopened, OtherLength, NotSound}
+use Rattle.rules.specs.declared.Answer.the-variants.{Refused}
 use Rattle.rules.proofs.Cases.{cases, by-eq}
+use Rattle.rules.proofs.Walk as Walk
+use Rattle.rules.proofs.Walk.{sound-fair}
 use Rattle.rules.proofs.Decide.{Opens}
-use Rattle.rules.proofs.Calls.{outcome-3, outcome-4, outcome-5}
+use Rattle.rules.proofs.Calls.{outcome-3, outcome-4, outcome-5, is-refused}
+use Rattle.numbers.specs.declared.Checked.{Checked}
 use Rattle.numbers.specs.declared.Checked.the-variants.{Fair, No}
 use Rattle.numbers.specs.Checks.{checkedOf}
+use Rattle.numbers.proofs.Checked as Verdict
 
 module _ (len : ℕ) (h : Heap) where
   pub checked-3 : h .bottom .0 ≡ 0 → No Unopened ≡ checkedOf len h
@@ -61,3 +69,20 @@ refuses-call c h m later {r} v =
     (λ t. let k = checked-fair (length m) h n d t in let z : _≡_ {A = ℕ} 0 1 = cc in absurd (omega arith))
     (λ t. let k = checked-5 (length m) h n d t in let e : r ≡ NotSound = cc in rw e (outcome-5 c h m later n d t)))
     (λ d. let k = checked-4 (length m) h n d in let e : r ≡ OtherLength = cc in rw e (outcome-4 c h m later n d)))
+
+-- ---- as a call parts the two by an `if let`
+
+-- what is not no lets the call go on
+fair-is : (v : Checked) → OneOf (0 ∷ []) (tagOf Verdict.the-type v) → v ≡ Fair
+fair-is Fair o = refl
+fair-is (No r) o = absurd (omega arith)
+
+module _ {v : Checked} {len : ℕ} (h : Heap) (m : List ℕ) (lent : len ≡ length m) (said : v ≡ checkedOf len h) where
+  -- the numbers keep their rules, and the arena has the length that they say
+  pub tested-fair : OneOf (0 ∷ []) (tagOf Verdict.the-type v) → Walk.Fair h × (length m ≡ h .len)
+  tested-fair o = let p = passes len h (sym said ∙ fair-is v o) in (sound-fair h (p .1), sym lent ∙ p .0)
+
+  -- the call hands the refusal back
+  pub tested-no : (c : Call) → Opens c ≡ false → {r : Refusal} {d : Done} → v ≡ No r → (d .answer ≡ Refused r) × (d .heap ≡ h)
+      → Is (after c h m) d m
+  tested-no c later {r} e p = is-refused c h m r (refuses-call c h m later (rw lent at (sym said ∙ e))) (p .0) (p .1)

@@ -38,11 +38,12 @@ use Rattle.fitting.specs.declared.Search.{Search}
 use Rattle.fitting.specs.declared.Search.the-variants as search
 use Rattle.fitting.proofs.Search as Searches
 use Rattle.cursor.proofs.Turn.{start}
-use Rattle.fitting.proofs.ToFit.{Fits, fit-bad, fit-full, fit-at}
+use Rattle.fitting.proofs.ToFit.{fit-bad, fit-full}
 use Rattle.hole_list.specs.Settled.{addsUp}
 use Rattle.taking.specs.NoHole.{noFit}
 use Rattle.hole_list.proofs.AddsUp.{by-walk, holes-onward}
 use Rattle.hole_list.proofs.Rest.{rest}
+use Rattle.splitting.proofs.Split.{found}
 use Rattle.hole_list.proofs.Sifted.{Refuses, refused-is, sound-is, broken-is}
 
 -- ---- the hole found
@@ -73,11 +74,6 @@ says h want align floor from total count (k ∷ ks) s c =
     (λ y. record { least = r .least; inside = r .inside; summed = omega arith; counted = omega arith })
     (λ n. says h want align (behind k) (placeOf (h .base) (k .addr)) (total + k .size) (count + 1) ks (omega arith) (omega arith)))
     (λ e. tt)
-
--- where it lies among the holes
-pub found : (h : Heap) (m : List ℕ) (want align : ℕ) {f : Fit}
-    → searchOf h want align (startOf h) none 0 0 (holes h m) ≡ search.At f → Fits h want align (startOf h) none 0 0 (holes h m) f
-found h m want align at = fit-at h want align (startOf h) none 0 0 (holes h m) at
 
 module _
     (h : Heap)

@@ -1,5 +1,4 @@
 -- The laws that the proofs of this crate share, by subject.
 
--- the hole that an allocation uses, and its split
+-- the search for the hole that an allocation uses
 pub mod Allocation
-pub mod Split

@@ -36,10 +36,10 @@ use Rattle.rules.specs.Calls as Calls
 use Rattle.rules.specs.declared.Heap.{Heap as Numbers}
 use Rattle.rules.specs.declared.Done.{Done}
 use Rattle.rules.proofs.Heap as T
-use Rattle.heap.proofs.allocate as callee
-use Rattle.heap.proofs.allocate.Symbol as callee-def
-use Rattle.heap.proofs.allocate.Symbol.{name as #callee}
-use Rattle.heap.proofs.allocate.Met as callee-thm
+use Rattle.allocating.proofs.allocate as callee
+use Rattle.allocating.proofs.allocate.Symbol as callee-def
+use Rattle.allocating.proofs.allocate.Symbol.{name as #callee}
+use Rattle.allocating.proofs.allocate.Met as callee-thm
 use Rattle.in_place.proofs.allocate.Key.{name as #this}
 use Rattle.in_place.proofs.allocate as this
 use Rattle.in_place.proofs.allocate.Statement as stated
@@ -120,4 +120,4 @@ allocate-spec 𝓤 H 𝓜 𝓖 𝓡 =
     entered 𝓤 H (tripleOf 𝓤 H (𝓖 .A) this.signature (this.spec 𝓤 H (𝓖 .A) (𝓜 .mem) (𝓡 .run)))
     (tables 𝓤 H 𝓜 𝓡 code.env .C) (tables 𝓤 H 𝓜 𝓡 code.env .Λ) #this code.function (code.unfolded 𝓤 H 𝓜 𝓡)
     (meets 𝓤 H (𝓖 .A) (givenOf 𝓤 H 𝓜 𝓖) (𝓜 .mem) (𝓡 .run) (tablesOf 𝓤 H 𝓜 (tables 𝓤 H 𝓜 𝓡 code.env))
-    (cited 𝓤 H (Callee 𝓤 H (𝓖 .A) (𝓜 .mem) (𝓡 .run)) 𝓜 𝓡 code.env #callee callee-def.routine code.calls-heap·allocate (callee-thm.met 𝓤 H 𝓜 𝓖 𝓡)))
+    (cited 𝓤 H (Callee 𝓤 H (𝓖 .A) (𝓜 .mem) (𝓡 .run)) 𝓜 𝓡 code.env #callee callee-def.routine code.calls-allocating·allocate (callee-thm.met 𝓤 H 𝓜 𝓖 𝓡)))

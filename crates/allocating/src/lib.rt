@@ -1,0 +1,30 @@
+// The call allocate, on a heap by value and a lent arena: the tests in front, then the hole list.
+use hole::arena_len;
+use hole_list::refuse;
+use hole_list::refuse_sound;
+use layout::align_layout;
+use numbers::Checked;
+use numbers::check;
+use rules::Done;
+use rules::Heap;
+use rules::Layout;
+use rules::Refusal;
+use taking::allocate_first_fit;
+ghost use Rattle.rules.specs.Calls as Calls;
+ghost use Rattle.rules.specs.Outcome.{Is, after};
+
+// Grants a block: the lowest address, a multiple of `align`, where the rounded size lies in one hole
+// and leaves 0 or at least 16 bytes on each side. It tests 3, 4, 5, 6, 7.
+pub fn allocate(h: Heap, arena: &mut [u8], size: u64, align: u64) -> Done
+    ensures { λ r. ⌜ Is (after (Calls.allocate size align) h (now (arena .entry))) r (now (arena .exit)) ⌝ }
+{
+    let checked = check(h, arena_len(arena));
+    if let Checked::No(r) = checked {
+        return refuse(h, r);
+    }
+    let layout = align_layout(size, align);
+    let Layout::Rounded(want) = layout else {
+        return refuse_sound(h, arena, Refusal::BadLayout);
+    };
+    allocate_first_fit(h, arena, want, align)
+}
