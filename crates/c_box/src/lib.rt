@@ -3,9 +3,9 @@
 // result, and its two values are the answer's words. The reports are in crate c_reports, the readers in
 // crate c_readers.
 //
-// Each export is the call of crate heap that it wraps, on the heap that the words say. None has a
-// `requires`: any words and any bytes may be lent. What C has to keep is what a reference means: arrays
-// of these lengths that do not overlap.
+// Each export is the call that it wraps (crates opening, allocating, freeing, extending), on the heap
+// that the words say. None has a `requires`: any words and any bytes may be lent. What C has to keep is
+// what a reference means: arrays of these lengths that do not overlap.
 use rules::Addr;
 use words::load;
 use words::show;
@@ -25,7 +25,7 @@ pub extern "C" fn lantern_open(
 ) -> u64
     ensures { λ r. ⌜ Shows (after (Calls.opening (addr base) named) (heapOf (now (heap .entry))) (now (arena .entry))) r (now (heap .exit)) (now (answer .exit)) (now (arena .exit)) ⌝ }
 {
-    let done = heap::open(load(heap), arena, Addr(base), named);
+    let done = opening::open(load(heap), arena, Addr(base), named);
     show(heap, answer, done)
 }
 
@@ -40,7 +40,7 @@ pub extern "C" fn lantern_allocate(
 ) -> u64
     ensures { λ r. ⌜ Shows (after (Calls.allocate size align) (heapOf (now (heap .entry))) (now (arena .entry))) r (now (heap .exit)) (now (answer .exit)) (now (arena .exit)) ⌝ }
 {
-    let done = heap::allocate(load(heap), arena, size, align);
+    let done = allocating::allocate(load(heap), arena, size, align);
     show(heap, answer, done)
 }
 
@@ -56,7 +56,7 @@ pub extern "C" fn lantern_free(
 ) -> u64
     ensures { λ r. ⌜ Shows (after (Calls.free (addr at) size align) (heapOf (now (heap .entry))) (now (arena .entry))) r (now (heap .exit)) (now (answer .exit)) (now (arena .exit)) ⌝ }
 {
-    let done = heap::free(load(heap), arena, Addr(at), size, align);
+    let done = freeing::free(load(heap), arena, Addr(at), size, align);
     show(heap, answer, done)
 }
 
@@ -70,6 +70,6 @@ pub extern "C" fn lantern_extend(
 ) -> u64
     ensures { λ r. ⌜ Shows (after (Calls.extend by) (heapOf (now (heap .entry))) (now (arena .entry))) r (now (heap .exit)) (now (answer .exit)) (now (arena .exit)) ⌝ }
 {
-    let done = heap::extend(load(heap), arena, by);
+    let done = extending::extend(load(heap), arena, by);
     show(heap, answer, done)
 }

@@ -37,7 +37,7 @@ fn tell_list(h: Heap, arena: &[u8], out: &mut [u8; LONGEST]) -> Replied
 {
     let mut addrs = [0u64; MOST];
     let mut sizes = [0u64; MOST];
-    let answer = heap::list(h, arena, &mut addrs, &mut sizes);
+    let answer = reports::list(h, arena, &mut addrs, &mut sizes);
     let t = answer_numbers(answer);
     put_line(out, 0, t.0, t.1, t.2);
     let n = t.1 as usize;
@@ -55,15 +55,15 @@ pub fn answer_line(h: Heap, arena: &mut [u8], line: &[u8], out: &mut [u8; LONGES
 {
     let frame = read_frame(line);
     match frame {
-        Frame::Open { base, named } => tell(out, heap::open(h, arena, Addr(base), named)),
-        Frame::Allocate { size, align } => tell(out, heap::allocate(h, arena, size, align)),
+        Frame::Open { base, named } => tell(out, opening::open(h, arena, Addr(base), named)),
+        Frame::Allocate { size, align } => tell(out, allocating::allocate(h, arena, size, align)),
         Frame::Free { addr, size, align } => {
-            tell(out, heap::free(h, arena, Addr(addr), size, align))
+            tell(out, freeing::free(h, arena, Addr(addr), size, align))
         }
-        Frame::Extend { by } => tell(out, heap::extend(h, arena, by)),
+        Frame::Extend { by } => tell(out, extending::extend(h, arena, by)),
         Frame::Holes => tell_list(h, arena, out),
         Frame::Room => {
-            let answer = heap::room(h, arena);
+            let answer = reports::room(h, arena);
             tell(out, Done { heap: h, answer })
         }
         Frame::Bad => {

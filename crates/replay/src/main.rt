@@ -145,7 +145,7 @@ fn main() {
     let n = io::read_full(INPUT, &mut text);
     let t = replay(
         Tally {
-            heap: heap::empty(),
+            heap: opening::empty(),
             at: 0,
             len: 0,
             agree: 0,

@@ -171,7 +171,7 @@ fn main() {
     let mut reply = [0u8; LONGEST];
     let mut waiting = [0u8; WAITING];
     let mut t = Talk {
-        heap: heap::empty(),
+        heap: opening::empty(),
         kept: 0,
         waits: 0,
         more: true,

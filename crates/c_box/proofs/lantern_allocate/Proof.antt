@@ -1,4 +1,4 @@
--- `c_box::lantern_allocate` meets its contract: it is `heap::allocate` on the heap that the words say. Assumes nothing.
+-- `c_box::lantern_allocate` meets its contract: it is `allocating::allocate` on the heap that the words say. Assumes nothing.
 use borrow.Author.Needs.{needs}
 use Rattle.rules.specs.Calls.{allocate}
 use Rattle.c_box.proofs.Shown.{shown}

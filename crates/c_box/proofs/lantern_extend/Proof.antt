@@ -1,4 +1,4 @@
--- `c_box::lantern_extend` meets its contract: it is `heap::extend` on the heap that the words say. Assumes nothing.
+-- `c_box::lantern_extend` meets its contract: it is `extending::extend` on the heap that the words say. Assumes nothing.
 use borrow.Author.Needs.{needs}
 use Rattle.rules.specs.Calls.{extend}
 use Rattle.c_box.proofs.Shown.{shown}

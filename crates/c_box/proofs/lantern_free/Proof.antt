@@ -1,4 +1,4 @@
--- `c_box::lantern_free` meets its contract: it is `heap::free` on the heap that the words say. Assumes nothing.
+-- `c_box::lantern_free` meets its contract: it is `freeing::free` on the heap that the words say. Assumes nothing.
 use borrow.Author.Needs.{needs}
 use Rattle.rules.specs.Kinds.{addr}
 use Rattle.rules.specs.Calls.{free}

@@ -1,4 +1,4 @@
--- `in_place::allocate` meets its contract: `heap::allocate` on a copy of the lent heap, and what it hands back stored there (`Lent`'s walk). Assumes nothing.
+-- `in_place::allocate` meets its contract: `allocating::allocate` on a copy of the lent heap, and what it hands back stored there (`Lent`'s walk). Assumes nothing.
 use mathlib.Core.Path.{_≡_, refl}
 use Prim.Native.Nat.{ℕ, _<_, _^_}
 use mathlib.Core.List.{[], _∷_, List}

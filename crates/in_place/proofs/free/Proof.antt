@@ -1,4 +1,4 @@
--- `in_place::free` meets its contract: `heap::free` on a copy of the lent heap, and what it hands back stored there (`Lent`'s walk). Assumes nothing.
+-- `in_place::free` meets its contract: `freeing::free` on a copy of the lent heap, and what it hands back stored there (`Lent`'s walk). Assumes nothing.
 use mathlib.Core.Path.{_≡_, refl}
 use Prim.Native.Nat.{ℕ, _<_, _^_}
 use mathlib.Core.List.{[], _∷_, List}
