@@ -18,8 +18,9 @@ use Rattle.rules.specs.declared.Place.{Place}
 use Rattle.rules.specs.declared.Head.{Head}
 use Rattle.rules.specs.declared.Hole.{Hole}
 use Rattle.rules.specs.declared.Heap.{Heap}
+use Rattle.rules.specs.Inner.{headRules, ends}
 use Rattle.rules.proofs.Cases.{cases}
-use Rattle.rules.proofs.Walk.{headRules, Keeps, rules-keep, keep-rules, ends}
+use Rattle.rules.proofs.Walk.{Keeps, rules-keep, keep-rules}
 use Rattle.cursor.specs.declared.Step.{Step}
 use Rattle.cursor.specs.declared.Step.the-variants as step
 use Rattle.cursor.specs.Walk.{lastOf, headOf, stepOf}

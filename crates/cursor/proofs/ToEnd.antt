@@ -14,8 +14,9 @@ use Rattle.rules.specs.declared.Addr.{Addr}
 use Rattle.rules.specs.declared.Place.{Place}
 use Rattle.rules.specs.declared.Hole.{Hole}
 use Rattle.rules.specs.declared.Heap.{Heap}
+use Rattle.rules.specs.Inner.{headRules, behind}
 use Rattle.rules.proofs.Cases.{cases, and-left}
-use Rattle.rules.proofs.Walk.{headRules, Keeps, rules-keep, behind, walks, walks-tail}
+use Rattle.rules.proofs.Walk.{Keeps, rules-keep, walks, walks-tail}
 use Rattle.cursor.specs.declared.Step.{Step}
 use Rattle.cursor.specs.declared.Step.the-variants as step
 use Rattle.cursor.specs.declared.Walked.the-variants as walked

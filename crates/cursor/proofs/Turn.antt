@@ -17,8 +17,9 @@ use Rattle.rules.specs.declared.Addr.{Addr}
 use Rattle.rules.specs.declared.Place.{Place}
 use Rattle.rules.specs.declared.Hole.{Hole}
 use Rattle.rules.specs.declared.Heap.{Heap}
+use Rattle.rules.specs.Inner.{Fair, headRules, behind}
 use Rattle.rules.proofs.Cases.{cases}
-use Rattle.rules.proofs.Walk.{Fair, headRules, rules-keep, behind, floorOf, floor-low, floor-high}
+use Rattle.rules.proofs.Walk.{rules-keep, floorOf, floor-low, floor-high}
 use Rattle.rules.proofs.Lists.{from-none, from-step, place-back, first-from, holes-read}
 use Rattle.cursor.specs.declared.Step.{Step}
 use Rattle.cursor.specs.declared.Step.the-variants as step

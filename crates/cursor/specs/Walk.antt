@@ -14,7 +14,7 @@ use Rattle.rules.specs.declared.Addr.{Addr}
 use Rattle.rules.specs.declared.Place.{Place}
 use Rattle.rules.specs.declared.Hole.{Hole}
 use Rattle.rules.specs.declared.Heap.{Heap}
-use Rattle.rules.proofs.Walk.{Fair, headRules, behind, ends}
+use Rattle.rules.specs.Inner.{Fair, headRules, behind, ends}
 use Rattle.cursor.specs.declared.Cursor.{Cursor}
 use Rattle.cursor.specs.declared.Step.{Step}
 use Rattle.cursor.specs.declared.Step.the-variants as step
@@ -75,3 +75,8 @@ walkedOf h floor total count largest (k ∷ ks) =
 
 abbrev pub cursorAt : Place → Place → Cursor
 cursorAt prev at = record { prev = prev; hole = at }
+
+-- the place of the last of the holes passed, where the walk came from p
+unfoldable pub lastPlace : Addr → Place → List Hole → Place
+lastPlace base p [] = p
+lastPlace base p (k ∷ ks) = lastPlace base (placeOf base (k .addr)) ks

@@ -10,8 +10,8 @@ use rules::NONE;
 use rules::Place;
 use std::num::wrapping_sub_u64;
 ghost use mathlib.Core.Path.{_≡_};
-ghost use Rattle.rules.proofs.Walk.{Fair};
 ghost use Rattle.cursor.specs.Walk.{Lent, startOf, lastOf, stepOf};
+ghost use Rattle.rules.specs.Inner.{Fair};
 
 // The floor of the first head: bottom if it lies there, else 16 bytes on, so that 0 or at least 16
 // bytes are left before it.

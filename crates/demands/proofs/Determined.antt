@@ -17,8 +17,8 @@ use Rattle.rules.specs.InWords.{SoundNumbers, Hold}
 use Rattle.rules.specs.Runs.{Fits, Reader}
 use Rattle.rules.specs.Behaviour.{Behaviour}
 use Rattle.rules.specs.Statements.{SoundMeans, RefusalNumbers, UnopenedIs, Reads, ReadersDo, Statements, Determined}
+use Rattle.rules.specs.Inner.{Bytes}
 use Rattle.rules.proofs.Cases.{by-eq, iff}
-use Rattle.rules.proofs.Words.{Bytes}
 use Rattle.demands.proofs.OneMemory.{one-memory}
 use Rattle.demands.proofs.OneRow.{one-row}
 use Rattle.demands.proofs.Verdict.{same-holes, entry}

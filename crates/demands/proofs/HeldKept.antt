@@ -23,9 +23,9 @@ use Rattle.rules.specs.Calls.{Call, opening, allocate, free, extend, list, room
 use Rattle.rules.specs.Refusals.{refusal6, tests}
 use Rattle.rules.specs.Runs.{Fits, Ask, calls, reads, AllFit, Block, block, sameBlock, without, Box, start, heldAfter, comesTo, boxAfter, nextBox, ends, HonestCall, Honest}
 use Rattle.rules.specs.InWords.{Valid}
+use Rattle.rules.specs.Inner.{Fair}
 use Rattle.rules.proofs.Cases.{by-test, apart, all-each, each-all}
 use Rattle.rules.proofs.Layouts.{layout-passed}
-use Rattle.rules.proofs.Walk.{Fair}
 use Rattle.rules.proofs.SoundWords.{rounded-rounds, holes-words}
 use Rattle.rules.proofs.Passes.{Passes, by-decided}
 use Rattle.rules.proofs.Used.{find-splits}

@@ -10,8 +10,9 @@ use lib.Seq.{ext-getD}
 use Rattle.rules.specs.declared.Hole.{Hole}
 use Rattle.rules.specs.Words.{word}
 use Rattle.rules.specs.InWords.{number, Hold, Within}
+use Rattle.rules.specs.Inner.{Bytes}
 use Rattle.rules.proofs.Cases.{by-eq, by-le}
-use Rattle.rules.proofs.Words.{Bytes, Agree}
+use Rattle.rules.proofs.Words.{Agree}
 
 -- ---- the bytes of a number
 

@@ -22,9 +22,9 @@ use Rattle.rules.specs.InWords.{Sound}
 use Rattle.rules.specs.Runs.{Fits}
 use Rattle.rules.specs.Behaviour.{Behaviour, ours}
 use Rattle.rules.specs.Statements.{Statements, Same}
+use Rattle.rules.specs.Inner.{Bytes}
 use Rattle.demands.specs.Frauds.{Asked}
 use Rattle.rules.proofs.Cases.{by-le}
-use Rattle.rules.proofs.Words.{Bytes}
 use Rattle.rules.proofs.Lists.{putHeads-bytes}
 use Rattle.rules.proofs.SoundWords.{sound-words}
 use Rattle.rules.proofs.Statements.{statements}

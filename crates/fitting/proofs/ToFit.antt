@@ -20,8 +20,9 @@ use Rattle.rules.specs.declared.Addr.{Addr}
 use Rattle.rules.specs.declared.Place.{Place}
 use Rattle.rules.specs.declared.Hole.{Hole}
 use Rattle.rules.specs.declared.Heap.{Heap}
+use Rattle.rules.specs.Inner.{Fair, headRules, behind, ends}
 use Rattle.rules.proofs.Cases.{by-test}
-use Rattle.rules.proofs.Walk.{Fair, headRules, behind, ends, walks}
+use Rattle.rules.proofs.Walk.{walks}
 use Rattle.cursor.specs.declared.Cursor.{Cursor}
 use Rattle.fitting.specs.declared.Fit.{Fit}
 use Rattle.cursor.specs.declared.Step.{Step}
@@ -32,7 +33,7 @@ use Rattle.cursor.specs.Walk.{Enough, startOf, lastOf, stepOf, cursorAt}
 use Rattle.fitting.specs.FirstFit.{stoppedSearch, searchOf}
 use Rattle.cursor.proofs.Step as Steps
 use Rattle.cursor.proofs.Turn.{Turn, StartsBad, turn-at, turn-goes, turn-stops, start}
-use Rattle.cursor.proofs.Passed.{lastPlace}
+use Rattle.cursor.specs.Walk.{lastPlace}
 
 -- ---- the turns of the loop
 

@@ -9,8 +9,9 @@ use Rattle.rules.specs.Holes.{end}
 use Rattle.rules.specs.Sound.{size}
 use Rattle.rules.specs.Free.{overlaps, eightToHole}
 use Rattle.rules.specs.declared.Hole.{Hole}
+use Rattle.rules.specs.Inner.{Rises, endOr}
 use Rattle.rules.proofs.Cases.{or-left, or-right}
-use Rattle.rules.proofs.Rises.{Rises, rises-widen, endOr}
+use Rattle.rules.proofs.Rises.{rises-widen}
 use Rattle.rules.proofs.Clear.{Clear, Follows, clear-rest, clear-follows, clear-followed, ClearBefore, ClearBehind, overlaps-append, eight-append}
 use Rattle.spotting.proofs.ToSpan.{AllFrom, Beyond}
 

@@ -17,7 +17,7 @@ use Rattle.rules.specs.declared.Heap.{Heap}
 use Rattle.rules.specs.declared.Done.{Done}
 use Rattle.rules.specs.declared.Refusal.the-variants.{BadSpan}
 use Rattle.rules.specs.declared.Answer.the-variants.{Freed}
-use Rattle.rules.proofs.Decide.{sifted, freeing}
+use Rattle.rules.specs.Inner.{sifted, freeing}
 use Rattle.spotting.specs.declared.Near.{Near}
 use Rattle.joining.specs.Span.{Free}
 use Rattle.giving.specs.SpanTests.{Around, mayFree}

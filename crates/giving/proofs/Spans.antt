@@ -13,9 +13,10 @@ use Rattle.rules.specs.Sound.{size, soundHoles}
 use Rattle.rules.specs.Refusals.{refusal8}
 use Rattle.rules.specs.declared.Hole.{Hole}
 use Rattle.rules.specs.declared.Heap.{Heap}
+use Rattle.rules.specs.Inner.{Fair, behind, Rises, endOr}
 use Rattle.rules.proofs.Cases.{iff, and-left, and-right, both, all-each, each-all, any-each, each-any}
-use Rattle.rules.proofs.Walk.{Fair, behind, sound-sum}
-use Rattle.rules.proofs.Rises.{Rises, rises-le, rises-widen, endOr, rises-front, rises-back, sound-rises}
+use Rattle.rules.proofs.Walk.{sound-sum}
+use Rattle.rules.proofs.Rises.{rises-le, rises-widen, rises-front, rises-back, sound-rises}
 use Rattle.rules.proofs.Clear.{Clear, Follows, passed, ClearBefore, ClearBehind, clear-none, clear-room}
 use Rattle.cursor.specs.Walk.{startOf}
 use Rattle.spotting.specs.declared.Near.{Near}

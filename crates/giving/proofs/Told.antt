@@ -12,12 +12,13 @@ use Rattle.rules.specs.declared.Addr.{Addr}
 use Rattle.rules.specs.declared.Place.{Place}
 use Rattle.rules.specs.declared.Hole.{Hole}
 use Rattle.rules.specs.declared.Heap.{Heap}
-use Rattle.rules.proofs.Walk.{behind}
-use Rattle.rules.proofs.Rises.{Rises, rises-le, endOr}
+use Rattle.rules.specs.Inner.{behind, Rises, endOr}
+use Rattle.rules.proofs.Rises.{rises-le}
 use Rattle.rules.proofs.Lists.{addr-back}
 use Rattle.rules.proofs.Clear.{ClearBefore, ClearBehind}
 use Rattle.spotting.specs.declared.Near.{Near}
-use Rattle.cursor.proofs.Passed.{lastPlace, lastFloor}
+use Rattle.cursor.proofs.Passed.{lastFloor}
+use Rattle.cursor.specs.Walk.{lastPlace}
 use Rattle.hole_list.proofs.Linked.{last-none, last-place}
 use Rattle.giving.proofs.Gaps.{gap-follows, follows-gap, keepsBefore, keepsBehind, before-none, before-gap}
 

@@ -21,10 +21,9 @@ ghost use Rattle.rules.specs.Fixed.{grain};
 ghost use Rattle.rules.specs.Round.{Power};
 ghost use Rattle.rules.specs.Sound.{holes};
 ghost use Rattle.rules.specs.Outcome.{Is, leaves};
-ghost use Rattle.rules.proofs.Walk.{Fair};
+ghost use Rattle.rules.specs.Inner.{Fair, sifted, freeing};
 ghost use Rattle.cursor.specs.Walk.{Asked};
 ghost use Rattle.hole_list.specs.Settled.{Ready};
-ghost use Rattle.rules.proofs.Decide.{sifted, freeing};
 ghost use Rattle.giving.specs.SpanTests.{Around, keepsGap, insideOf, betweenOf, mayFree};
 
 // 0 or at least 16 bytes lie between two addresses that are multiples of 8, the first not above the

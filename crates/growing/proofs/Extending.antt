@@ -23,17 +23,17 @@ use Rattle.rules.specs.declared.Heap.{Heap}
 use Rattle.rules.specs.declared.Done.{Done}
 use Rattle.rules.specs.declared.Refusal.the-variants.{PastArena}
 use Rattle.rules.specs.declared.Answer.the-variants.{Extended}
+use Rattle.rules.specs.Inner.{Fair, headRules, behind, ends, sifted, extending}
 use Rattle.rules.proofs.Cases.{cases, both}
-use Rattle.rules.proofs.Walk.{Fair, headRules, rules-keep, behind, ends, walks}
+use Rattle.rules.proofs.Walk.{rules-keep, walks}
 use Rattle.rules.proofs.Rises.{rises-back, sound-rises}
 use Rattle.rules.proofs.Lists.{heads-to}
 use Rattle.rules.proofs.Relink.{put-same}
-use Rattle.rules.proofs.Decide.{sifted, extending}
 use Rattle.cursor.specs.Walk.{startOf, lastOf}
 use Rattle.spotting.specs.Nearest.{nearAt, stoppedNear, nearOf}
 use Rattle.spotting.specs.declared.Near.{Near}
 use Rattle.spotting.specs.declared.Spot.the-variants as spot
-use Rattle.cursor.proofs.Passed.{lastPlace}
+use Rattle.cursor.specs.Walk.{lastPlace}
 use Rattle.hole_list.specs.Settled.{Ready, Settled}
 use Rattle.joining.specs.Span.{Free}
 use Rattle.hole_list.proofs.AddsUp.{by-walk}

@@ -21,9 +21,8 @@ ghost use Rattle.rules.specs.Holes.{hole};
 ghost use Rattle.rules.specs.Sound.{size, holes};
 ghost use Rattle.rules.specs.Calls.{grown};
 ghost use Rattle.rules.specs.Outcome.{Is, leaves};
-ghost use Rattle.rules.proofs.Walk.{Fair};
+ghost use Rattle.rules.specs.Inner.{Fair, sifted, extending};
 ghost use Rattle.hole_list.specs.Settled.{Ready, Settled};
-ghost use Rattle.rules.proofs.Decide.{sifted, extending};
 ghost use Rattle.joining.specs.Span.{Free};
 
 // The bytes only accumulate.

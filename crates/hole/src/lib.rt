@@ -9,7 +9,7 @@ ghost use lib.ListN.{length};
 ghost use Rattle.rules.specs.Kinds.{place};
 ghost use Rattle.rules.specs.Words.{word, store};
 ghost use Rattle.rules.specs.Holes.{headAt, putHead};
-ghost use Rattle.rules.proofs.Words.{Bytes};
+ghost use Rattle.rules.specs.Inner.{Bytes};
 
 // The number in eight bytes. They are joined by `|` and not summed, which keeps them one load of
 // eight bytes even where a caller tests the low digits.

@@ -12,8 +12,9 @@ use Rattle.rules.specs.Sound.{size, soundHoles, holes}
 use Rattle.rules.specs.declared.Addr.{Addr}
 use Rattle.rules.specs.declared.Hole.{Hole}
 use Rattle.rules.specs.declared.Heap.{Heap}
+use Rattle.rules.specs.Inner.{Fair}
 use Rattle.rules.proofs.Cases.{cases, iff}
-use Rattle.rules.proofs.Walk.{Fair, walks, floorOf, sound-walks}
+use Rattle.rules.proofs.Walk.{walks, floorOf, sound-walks}
 use Rattle.cursor.specs.Walk.{startOf, walkedOf}
 use Rattle.cursor.proofs.Turn.{start}
 use Rattle.cursor.proofs.ToEnd.{walked-good, walked-bad}

@@ -12,10 +12,10 @@ use Rattle.rules.specs.declared.Addr.{Addr}
 use Rattle.rules.specs.declared.Place.{Place}
 use Rattle.rules.specs.declared.Hole.{Hole}
 use Rattle.rules.specs.declared.Heap.{Heap}
-use Rattle.rules.proofs.Rises.{Rises}
-use Rattle.rules.proofs.Lists.{firstOr, Holds}
+use Rattle.rules.specs.Inner.{firstOr, Rises}
+use Rattle.rules.proofs.Lists.{Holds}
 use Rattle.rules.proofs.Relink.{link}
-use Rattle.cursor.proofs.Passed.{lastPlace}
+use Rattle.cursor.specs.Walk.{lastPlace}
 use Rattle.hole_list.specs.Settled.{leadingTo, linkedHeap, linkedArena}
 
 -- ---- the last hole of a list

@@ -12,7 +12,7 @@ use Rattle.rules.specs.declared.Done.{Done}
 use Rattle.rules.specs.declared.Refusal.{Refusal}
 use Rattle.rules.specs.declared.Refusal.the-variants.{NotSound}
 use Rattle.rules.specs.declared.Answer.the-variants.{Refused}
-use Rattle.rules.proofs.Decide.{sifted}
+use Rattle.rules.specs.Inner.{sifted}
 use Rattle.rules.proofs.Calls.{is-refused, sifted-refused}
 
 -- a refused call, as `refuse` hands it back

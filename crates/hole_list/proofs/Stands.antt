@@ -8,9 +8,10 @@ use Rattle.rules.specs.Kinds.{none}
 use Rattle.rules.specs.Holes.{firstOf, total}
 use Rattle.rules.specs.Sound.{size, listRules, soundHoles, most, holes}
 use Rattle.rules.specs.declared.Heap.{Heap}
+use Rattle.rules.specs.Inner.{Rises}
 use Rattle.rules.proofs.Cases.{all-each}
 use Rattle.rules.proofs.Walk.{sound-count}
-use Rattle.rules.proofs.Rises.{Rises, sound-rises}
+use Rattle.rules.proofs.Rises.{sound-rises}
 use Rattle.rules.proofs.Lists.{Holds, holds-from}
 use Rattle.cursor.proofs.Turn.{start}
 use Rattle.hole_list.specs.Settled.{Settled}

@@ -12,8 +12,7 @@ ghost use lib.ListN.{length};
 ghost use Rattle.rules.specs.Fixed.{minSize};
 ghost use Rattle.rules.specs.Kinds.{none};
 ghost use Rattle.rules.specs.Allocate.{remains};
-ghost use Rattle.rules.proofs.Words.{Bytes};
-ghost use Rattle.rules.proofs.Lists.{firstOr, putHeadsTo};
+ghost use Rattle.rules.specs.Inner.{Bytes, firstOr, putHeadsTo};
 ghost use Rattle.hole_list.specs.Settled.{linkedHeap, linkedArena};
 
 // What remains between two addresses becomes a hole that leads to `next`, unless nothing does. The

@@ -17,15 +17,15 @@ use Rattle.rules.specs.declared.Place.{Place}
 use Rattle.rules.specs.declared.Head.{Head}
 use Rattle.rules.specs.declared.Hole.{Hole}
 use Rattle.rules.specs.declared.Heap.{Heap}
+use Rattle.rules.specs.Inner.{Bytes, Fair, Rises, endOr}
 use Rattle.rules.proofs.Cases.{by-eq}
-use Rattle.rules.proofs.Words.{Bytes}
-use Rattle.rules.proofs.Walk.{Fair, sound-count}
-use Rattle.rules.proofs.Rises.{Rises, rises-le, endOr, rises-front, rises-back, sound-rises}
+use Rattle.rules.proofs.Walk.{sound-count}
+use Rattle.rules.proofs.Rises.{rises-le, rises-front, rises-back, sound-rises}
 use Rattle.rules.proofs.Lists.{first-or, Holds, holds-split, holds-from}
 use Rattle.rules.proofs.Freed.{Beyond, last-end, inFront-touch, inFront-apart}
 use Rattle.cursor.specs.declared.Cursor.{Cursor}
 use Rattle.cursor.proofs.Turn.{start}
-use Rattle.cursor.proofs.Passed.{lastPlace}
+use Rattle.cursor.specs.Walk.{lastPlace}
 use Rattle.hole_list.specs.Settled.{Settled}
 use Rattle.joining.specs.Span.{Free, mergedHead}
 use Rattle.hole_list.proofs.Linked.{by-last, last-none, last-some}

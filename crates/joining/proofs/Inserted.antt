@@ -14,13 +14,14 @@ use Rattle.rules.specs.declared.Place.{Place}
 use Rattle.rules.specs.declared.Head.{Head}
 use Rattle.rules.specs.declared.Hole.{Hole}
 use Rattle.rules.specs.declared.Heap.{Heap}
+use Rattle.rules.specs.Inner.{endOr}
 use Rattle.rules.proofs.Heads.{putHead-below}
-use Rattle.rules.proofs.Rises.{rises-le, endOr, rises-front, rises-back, rises-append}
+use Rattle.rules.proofs.Rises.{rises-le, rises-front, rises-back, rises-append}
 use Rattle.rules.proofs.Lists.{first-or, first-append, same-heads, holds-same}
 use Rattle.rules.proofs.Freed.{freed-first, freed-apart, freed-touch}
 use Rattle.rules.proofs.Relink.{put-one, relink, relink-same}
 use Rattle.cursor.specs.declared.Cursor.{Cursor}
-use Rattle.cursor.proofs.Passed.{lastPlace}
+use Rattle.cursor.specs.Walk.{lastPlace}
 use Rattle.hole_list.specs.Settled.{Settled, linkedHeap, linkedArena}
 use Rattle.joining.specs.Span.{Free, mergedHead}
 use Rattle.hole_list.proofs.Linked.{linked-arena, linked-heap}

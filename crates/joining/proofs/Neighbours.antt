@@ -16,8 +16,9 @@ use Rattle.rules.specs.declared.Addr.{Addr}
 use Rattle.rules.specs.declared.Place.{Place}
 use Rattle.rules.specs.declared.Hole.{Hole}
 use Rattle.rules.specs.declared.Heap.{Heap}
+use Rattle.rules.specs.Inner.{Fair, headRules, behind}
 use Rattle.rules.proofs.Cases.{cases}
-use Rattle.rules.proofs.Walk.{Fair, headRules, rules-keep, behind}
+use Rattle.rules.proofs.Walk.{rules-keep}
 use Rattle.rules.proofs.Totals.{total-append}
 use Rattle.cursor.specs.Walk.{Enough, startOf, walkedOf}
 use Rattle.spotting.specs.Nearest.{nearOf}

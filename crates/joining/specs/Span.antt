@@ -11,8 +11,8 @@ use Rattle.rules.specs.declared.Place.{Place}
 use Rattle.rules.specs.declared.Head.{Head}
 use Rattle.rules.specs.declared.Hole.{Hole}
 use Rattle.rules.specs.declared.Heap.{Heap}
-use Rattle.rules.proofs.Rises.{Rises, endOr}
-use Rattle.cursor.proofs.Passed.{lastPlace}
+use Rattle.rules.specs.Inner.{Rises, endOr}
+use Rattle.cursor.specs.Walk.{lastPlace}
 use Rattle.cursor.specs.declared.Cursor.{Cursor}
 
 -- a span that lies between the holes of a cursor and overlaps none

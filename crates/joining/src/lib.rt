@@ -18,7 +18,7 @@ ghost use Rattle.rules.specs.Holes.{headAt, putHead, putHeads};
 ghost use Rattle.rules.specs.Sound.{holes};
 ghost use Rattle.rules.specs.Free.{freed};
 ghost use Rattle.rules.specs.Calls.{renewed};
-ghost use Rattle.rules.proofs.Words.{Bytes};
+ghost use Rattle.rules.specs.Inner.{Bytes};
 ghost use Rattle.hole_list.specs.Settled.{Settled, linkedHeap, linkedArena};
 ghost use Rattle.joining.specs.Span.{Free, mergedHead};
 

@@ -7,10 +7,11 @@ use Rattle.rules.specs.Fixed.{grain}
 use Rattle.rules.specs.Round.{Above}
 use Rattle.rules.specs.Sound.{soundNumbers}
 use Rattle.rules.specs.declared.Heap.{Heap}
+use Rattle.rules.specs.Inner.{Fair}
 use Rattle.rules.proofs.Cases.{cases, iff}
 use Rattle.rules.proofs.Multiples.{above-is, up-near}
 use Rattle.rules.proofs.Powers.{power-pos, grain-power}
-use Rattle.rules.proofs.Walk.{Fair, sound-fair, fair-sound}
+use Rattle.rules.proofs.Walk.{sound-fair, fair-sound}
 
 -- an address rounded up to 8 lies less than 8 bytes on
 pub above-near : {x r : ℕ} → Above grain x r → r < x + grain

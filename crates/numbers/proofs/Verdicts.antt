@@ -17,7 +17,7 @@ use Rattle.rules.specs.declared.Refusal.{Refusal}
 use Rattle.rules.specs.declared.Refusal.the-variants.{Unopened, OtherLength, NotSound}
 use Rattle.rules.specs.declared.Answer.the-variants.{Refused}
 use Rattle.rules.proofs.Cases.{cases, by-eq}
-use Rattle.rules.proofs.Walk as Walk
+use Rattle.rules.specs.Inner as Inner
 use Rattle.rules.proofs.Walk.{sound-fair}
 use Rattle.rules.proofs.Decide.{Opens}
 use Rattle.rules.proofs.Calls.{outcome-3, outcome-4, outcome-5, is-refused}
@@ -79,7 +79,7 @@ fair-is (No r) o = absurd (omega arith)
 
 module _ {v : Checked} {len : ℕ} (h : Heap) (m : List ℕ) (lent : len ≡ length m) (said : v ≡ checkedOf len h) where
   -- the numbers keep their rules, and the arena has the length that they say
-  pub tested-fair : OneOf (0 ∷ []) (tagOf Verdict.the-type v) → Walk.Fair h × (length m ≡ h .len)
+  pub tested-fair : OneOf (0 ∷ []) (tagOf Verdict.the-type v) → Inner.Fair h × (length m ≡ h .len)
   tested-fair o = let p = passes len h (sym said ∙ fair-is v o) in (sound-fair h (p .1), sym lent ∙ p .0)
 
   -- the call hands the refusal back

@@ -11,8 +11,9 @@ use Rattle.rules.specs.Sound.{size, soundNumbers}
 use Rattle.rules.specs.Readers.{unreadable, readAddr, readNumber}
 use Rattle.rules.specs.declared.Addr.{Addr}
 use Rattle.rules.specs.declared.Heap.{Heap}
+use Rattle.rules.specs.Inner.{Fair}
 use Rattle.rules.proofs.Cases.{cases, by-le, any-each}
-use Rattle.rules.proofs.Walk.{Fair, sound-fair}
+use Rattle.rules.proofs.Walk.{sound-fair}
 
 -- what makes a heap readable
 pub record Readable (h : Heap) : Type 0 where

@@ -18,8 +18,9 @@ use Rattle.rules.specs.declared.Addr.{Addr}
 use Rattle.rules.specs.declared.Place.{Place}
 use Rattle.rules.specs.declared.Hole.{Hole}
 use Rattle.rules.specs.declared.Heap.{Heap}
+use Rattle.rules.specs.Inner.{headRules, behind, ends}
 use Rattle.rules.proofs.Cases.{cases, apart, and-right}
-use Rattle.rules.proofs.Walk.{headRules, behind, ends, walks, sound-walk}
+use Rattle.rules.proofs.Walk.{walks, sound-walk}
 use Rattle.rules.proofs.Reports.{over-length}
 use Rattle.cursor.specs.Walk.{Enough, startOf, lastOf, stepOf}
 use Rattle.cursor.specs.declared.Step.{Step}

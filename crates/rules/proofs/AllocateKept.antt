@@ -17,9 +17,10 @@ use Rattle.rules.specs.Sound.{soundHoles}
 use Rattle.rules.specs.Allocate.{candidate, suits, found, find, remains, split}
 use Rattle.rules.specs.Calls.{renewed}
 use Rattle.rules.specs.InWords.{Gap}
+use Rattle.rules.specs.Inner.{Fair, behind}
 use Rattle.rules.proofs.Cases.{cases, by-eq}
 use Rattle.rules.proofs.Powers.{power-pos}
-use Rattle.rules.proofs.Walk.{Fair, behind, walks, floorOf, walks-head, walks-tail, walks-cons, sound-walk, sound-sum, walk-sound}
+use Rattle.rules.proofs.Walk.{walks, floorOf, walks-head, walks-tail, walks-cons, sound-walk, sound-sum, walk-sound}
 use Rattle.rules.proofs.Floors.{walks-lower, walks-first, raised-walk}
 use Rattle.rules.proofs.Totals.{used-total}
 use Rattle.rules.proofs.Used.{find-splits, candidate-low, suits-fits}

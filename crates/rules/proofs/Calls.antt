@@ -25,10 +25,11 @@ use Rattle.rules.specs.Allocate.{find}
 use Rattle.rules.specs.Calls.{Call, opening, allocate, free, extend, list, room, Outcome, refused, told, done, onlyHole, opened, taken, accepted}
 use Rattle.rules.specs.Refusals.{refusal1, layoutOf, openedTests, tests, unless}
 use Rattle.rules.specs.Outcome.{decided, outcome, leaves, after, Is, Rows, inRows, leavesRows, rowsAfter}
+use Rattle.rules.specs.Inner.{sifted, freeing, extending}
 use Rattle.rules.proofs.Cases.{cases}
 use Rattle.rules.proofs.Layouts.{layout-refused, layout-granted}
 use Rattle.rules.proofs.Walk.{sound-fair}
-use Rattle.rules.proofs.Decide.{sifted, unless-3, unless-4, unless-5, unless-fair, freeing, extending, rest, Opens, decided-later}
+use Rattle.rules.proofs.Decide.{unless-3, unless-4, unless-5, unless-fair, rest, Opens, decided-later}
 
 -- ---- what an outcome leaves
 

@@ -14,8 +14,9 @@ use Rattle.rules.specs.Kinds.{before}
 use Rattle.rules.specs.Holes.{end, total}
 use Rattle.rules.specs.Free.{overlaps, eight, eightToHole}
 use Rattle.rules.specs.Refusals.{refusal8}
+use Rattle.rules.specs.Inner.{Rises, endOr}
 use Rattle.rules.proofs.Cases.{cases, by-le, apart, or-left, or-right, neither, any-each}
-use Rattle.rules.proofs.Rises.{Rises, rises-le, endOr, rises-front, rises-back}
+use Rattle.rules.proofs.Rises.{rises-le, rises-front, rises-back}
 
 -- ---- the tests on one hole
 

@@ -1,25 +1,20 @@
 -- How a call is decided: 3, 4 and the rules on the numbers first, then the rules on the holes, then the rest. Assumes nothing.
 use mathlib.Core.Path.{_≡_, refl}
-use mathlib.Core.Bool.{Bool, true, false, cond}
+use mathlib.Core.Bool.{Bool, true, false}
 use mathlib.Core.List.{List, [], _∷_, _++_}
 use Prim.Native.Nat.{ℕ}
 use borrow.Author.Tests.{eq-eqb, ne-eqb}
-use Rattle.rules.specs.declared.Addr.{Addr}
 use Rattle.rules.specs.declared.Hole.{Hole}
 use Rattle.rules.specs.declared.Heap.{Heap}
 use Rattle.rules.specs.declared.Refusal.the-variants.{Unopened, OtherLength, NotSound, BadLayout, BadSpan, PastArena}
-use Rattle.rules.specs.Tests.{any}
 use Rattle.rules.specs.Holes.{hole}
 use Rattle.rules.specs.Sound.{soundNumbers, soundHoles, sound}
 use Rattle.rules.specs.Allocate.{rounded}
-use Rattle.rules.specs.Calls.{Call, allocate, free, extend, list, room, Outcome, refused, given, extended, accepted}
+use Rattle.rules.specs.Calls.{Call, allocate, free, extend, list, room, Outcome, refused, accepted}
 use Rattle.rules.specs.Refusals.{Test, test, openedTests, tests, unless, refusal6, refusal8, refusal9}
 use Rattle.rules.specs.Outcome.{decided}
+use Rattle.rules.specs.Inner.{sifted}
 use Rattle.rules.proofs.Cases.{cases, apart}
-
--- an outcome, unless the holes break a rule
-unfoldable pub sifted : Heap → List Hole → Outcome → Outcome
-sifted h ks o = cond (soundHoles h ks) o (refused NotSound)
 
 -- ---- the tests that all calls but open begin with, whatever follows them
 
@@ -44,14 +39,6 @@ module _ (len : ℕ) (h : Heap) (ks : List Hole) (ts : List Test) (o : Outcome) 
       (λ q. rw (ne-eqb (h .bottom .0) 0 n, eq-eqb len (h .len) d, e, q))
 
 -- ---- what follows them, call by call
-
--- a free on sound holes
-unfoldable pub freeing : ℕ → Addr → ℕ → Heap → List Hole → Outcome
-freeing s a align h ks = cond (any (refusal8 h ks (hole a s) align)) (refused BadSpan) (given s a h ks)
-
--- an extension on sound holes
-unfoldable pub extending : ℕ → Heap → List Hole → Outcome
-extending by h ks = cond (any (refusal9 by h)) (refused PastArena) (extended by h ks)
 
 -- the tests behind 5, and what is left once they pass
 abbrev pub rest : Call → Heap → List Hole → List Test

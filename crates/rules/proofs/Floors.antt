@@ -11,8 +11,9 @@ use Rattle.rules.specs.declared.Heap.{Heap}
 use Rattle.rules.specs.Fixed.{minSize}
 use Rattle.rules.specs.Kinds.{plus}
 use Rattle.rules.specs.InWords.{Gap}
+use Rattle.rules.specs.Inner.{Fair, behind}
 use Rattle.rules.proofs.Gaps.{gap-le}
-use Rattle.rules.proofs.Walk.{Fair, behind, walks, floorOf, walks-head, walks-tail, walks-cons, ends-low, ends-top, ends-cases, floor-high}
+use Rattle.rules.proofs.Walk.{walks, floorOf, walks-head, walks-tail, walks-cons, ends-low, ends-top, ends-cases, floor-high}
 
 -- ---- another floor
 

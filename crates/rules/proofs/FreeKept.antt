@@ -17,7 +17,8 @@ use Rattle.rules.specs.Free.{freed, overlaps, eightToHole}
 use Rattle.rules.specs.Calls.{renewed}
 use Rattle.rules.specs.Refusals.{refusal8}
 use Rattle.rules.specs.InWords.{Gap}
-use Rattle.rules.proofs.Walk.{Fair, behind, walks, floorOf, walks-head, walks-tail, ends-cases, sound-walk, sound-sum, walk-sound}
+use Rattle.rules.specs.Inner.{Fair, behind}
+use Rattle.rules.proofs.Walk.{walks, floorOf, walks-head, walks-tail, ends-cases, sound-walk, sound-sum, walk-sound}
 use Rattle.rules.proofs.Floors.{raised-walk}
 use Rattle.rules.proofs.Rises.{sound-rises}
 use Rattle.rules.proofs.Totals.{freed-total}

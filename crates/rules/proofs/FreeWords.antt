@@ -20,9 +20,9 @@ use Rattle.rules.specs.Calls.{free, extend, renewed, given, grown, gathe
 use Rattle.rules.specs.Refusals.{unless}
 use Rattle.rules.specs.Behaviour.{ours}
 use Rattle.rules.specs.Statements.{Joined, FreeDoes, ExtendGathers, ExtendGrows}
+use Rattle.rules.specs.Inner.{Fair}
 use Rattle.rules.proofs.Multiples.{below-is}
 use Rattle.rules.proofs.Powers.{power-pos, grain-power}
-use Rattle.rules.proofs.Walk.{Fair}
 use Rattle.rules.proofs.Rises.{sound-rises}
 use Rattle.rules.proofs.SoundWords.{rounds-rounded, fair-words}
 use Rattle.rules.proofs.TestWords.{means-fails, no-span}

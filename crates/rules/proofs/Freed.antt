@@ -7,7 +7,8 @@ use borrow.Author.Tests.{le-ltb, lt-ltb, eq-eqb, ne-eqb}
 use Rattle.rules.specs.declared.Hole.{Hole}
 use Rattle.rules.specs.Holes.{end}
 use Rattle.rules.specs.Free.{joined, inFront, freed}
-use Rattle.rules.proofs.Rises.{Rises, rises-le, endOr, rises-front, rises-back}
+use Rattle.rules.specs.Inner.{Rises, endOr}
+use Rattle.rules.proofs.Rises.{rises-le, rises-front, rises-back}
 
 -- the first of the holes, if there is one, lies past n
 abbrev pub Past : ℕ → List Hole → Type 0

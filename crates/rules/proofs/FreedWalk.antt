@@ -13,9 +13,10 @@ use Rattle.rules.specs.Fixed.{minSize, grain}
 use Rattle.rules.specs.Kinds.{before}
 use Rattle.rules.specs.Holes.{end}
 use Rattle.rules.specs.Free.{touch, joined, inFront, freed}
+use Rattle.rules.specs.Inner.{Fair, behind, ends}
 use Rattle.rules.proofs.Cases.{cases, by-test}
 use Rattle.rules.proofs.Gaps.{gap-apart, eights-gap}
-use Rattle.rules.proofs.Walk.{Fair, Keeps, behind, ends, walks, floorOf, walks-head, walks-tail, walks-cons, ends-low, ends-top, gap-floor}
+use Rattle.rules.proofs.Walk.{Keeps, walks, floorOf, walks-head, walks-tail, walks-cons, ends-low, ends-top, gap-floor}
 use Rattle.rules.proofs.Floors.{walks-floor}
 use Rattle.rules.proofs.Clear.{Clear, Follows, clear-follows, clear-followed, clear-rest, ClearBehind}
 

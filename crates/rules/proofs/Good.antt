@@ -23,10 +23,11 @@ use Rattle.rules.specs.InWords.{Sound}
 use Rattle.rules.specs.InWords.{Valid}
 use Rattle.rules.specs.Behaviour.{ours, Good}
 use Rattle.rules.specs.Statements.{Becomes}
+use Rattle.rules.specs.Inner.{Fair, Rises, sifted}
 use Rattle.rules.proofs.Powers.{power-one}
-use Rattle.rules.proofs.Walk.{Fair, sound-count}
-use Rattle.rules.proofs.Rises.{Rises, sound-rises}
-use Rattle.rules.proofs.Decide.{sifted, unless-fair, rest, Opens, decided-later}
+use Rattle.rules.proofs.Walk.{sound-count}
+use Rattle.rules.proofs.Rises.{sound-rises}
+use Rattle.rules.proofs.Decide.{unless-fair, rest, Opens, decided-later}
 use Rattle.rules.proofs.SoundWords.{rounds-rounded, words-fair, words-numbers, words-holes}
 
 pub good-fair : (h : Heap) (m : List ℕ) → Good ours h m → Fair h

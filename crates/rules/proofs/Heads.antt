@@ -10,22 +10,8 @@ use Rattle.rules.specs.declared.Head.{Head}
 use Rattle.rules.specs.Kinds.{place}
 use Rattle.rules.specs.Words.{word, store}
 use Rattle.rules.specs.Holes.{headAt, putHead}
-use Rattle.rules.proofs.Words.{
-  Bytes,
-  Agree,
-  word-agree,
-  word-else,
-  word-store,
-  store-length,
-  store-below,
-  store-above,
-  store-bytes,
-  store-same,
-  take-store-le,
-  drop-store-le,
-  take-store,
-  drop-store,
-}
+use Rattle.rules.specs.Inner.{Bytes}
+use Rattle.rules.proofs.Words.{Agree, word-agree, word-else, word-store, store-length, store-below, store-above, store-bytes, store-same, take-store-le, drop-store-le, take-store, drop-store}
 
 -- ---- writing leaves the rest
 

@@ -18,7 +18,7 @@ use Rattle.rules.specs.Outcome.{outcome, leaves, after}
 use Rattle.rules.specs.InWords.{number, Hold}
 use Rattle.rules.specs.Behaviour.{ours}
 use Rattle.rules.specs.Statements.{UnopenedIs, HolesMean, BytesStay}
-use Rattle.rules.proofs.Words.{Bytes}
+use Rattle.rules.specs.Inner.{Bytes}
 use Rattle.rules.proofs.Lists.{by-none, from-none, from-step, holes-read, putHeads-bytes}
 use Rattle.rules.proofs.Walk.{sound-count}
 use Rattle.rules.proofs.SoundWords.{words-fair, words-holes}

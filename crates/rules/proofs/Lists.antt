@@ -15,11 +15,11 @@ use Rattle.rules.specs.Fixed.{minSize}
 use Rattle.rules.specs.Kinds.{addrOf, placeOf, place, none}
 use Rattle.rules.specs.Holes.{hole, headAt, putHead, holesFrom, firstOf, putHeads}
 use Rattle.rules.specs.Sound.{most, holes}
+use Rattle.rules.specs.Inner.{Bytes, firstOr, putHeadsTo, Fair, Rises}
 use Rattle.rules.proofs.Cases.{by-eq, by-le}
-use Rattle.rules.proofs.Words.{Bytes, Agree}
+use Rattle.rules.proofs.Words.{Agree}
 use Rattle.rules.proofs.Heads.{putHead-length, putHead-below, putHead-above, putHead-bytes, head-agree, head-back}
-use Rattle.rules.proofs.Walk.{Fair}
-use Rattle.rules.proofs.Rises.{Rises, rises-le}
+use Rattle.rules.proofs.Rises.{rises-le}
 
 -- ---- head by head
 
@@ -57,11 +57,6 @@ unfolding holes
 holes-read h m f = rw (ne-eqb (h .bottom .0) 0 (λ z. omega arith))
 
 -- ---- heads that stand in memory
-
--- the place of the first hole, or q if there is none
-abbrev pub firstOr : Addr → List Hole → Place → Place
-firstOr base [] q = q
-firstOr base (k ∷ ks) q = placeOf base (k .addr)
 
 pub first-or : (base : Addr) (ks : List Hole) → firstOf base ks ≡ firstOr base ks none
 unfolding firstOf
@@ -159,12 +154,6 @@ frame (suc n) base m m′ p g =
     rw (from-step n base m′ p e, from-step n base m p e, ← head, rest))
 
 -- ---- the heads of a list, written
-
--- as putHeads, with the last head leading to q
-unfoldable pub putHeadsTo : Addr → List Hole → Place → List ℕ → List ℕ
-putHeadsTo base [] q m = m
-putHeadsTo base (k ∷ ks) q m =
-    putHead (putHeadsTo base ks q m) (placeOf base (k .addr)) (record { size = k .size; next = firstOr base ks q })
 
 pub heads-to : (base : Addr) (ks : List Hole) (m : List ℕ) → putHeads base ks m ≡ putHeadsTo base ks none m
 unfolding putHeads putHeadsTo

@@ -19,8 +19,8 @@ use Rattle.rules.specs.Refusals.{refusal1, tests, unless}
 use Rattle.rules.specs.Outcome.{decided, outcome}
 use Rattle.rules.specs.Behaviour.{ours}
 use Rattle.rules.specs.Statements.{OpenDoes}
+use Rattle.rules.specs.Inner.{Fair}
 use Rattle.rules.proofs.Cases.{both, any-each, each-all}
-use Rattle.rules.proofs.Walk.{Fair}
 use Rattle.rules.proofs.SoundWords.{left-is}
 use Rattle.rules.proofs.Gaps.{words-gap}
 use Rattle.rules.proofs.TestWords.{means-fails, no-start}

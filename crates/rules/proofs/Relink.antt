@@ -10,22 +10,10 @@ use Rattle.rules.specs.declared.Place.{Place}
 use Rattle.rules.specs.declared.Hole.{Hole}
 use Rattle.rules.specs.Kinds.{placeOf, none}
 use Rattle.rules.specs.Holes.{headAt, putHead, firstOf, putHeads}
-use Rattle.rules.proofs.Words.{Bytes}
+use Rattle.rules.specs.Inner.{Bytes, firstOr, putHeadsTo, Rises, endOr}
 use Rattle.rules.proofs.Heads.{putHead-below, putHead-bytes, head-agree, head-same}
-use Rattle.rules.proofs.Rises.{Rises, rises-le, endOr, rises-front, rises-back}
-use Rattle.rules.proofs.Lists.{
-  firstOr,
-  first-or,
-  first-append,
-  Holds,
-  same-heads,
-  holds-same,
-  no-head,
-  putHeadsTo,
-  heads-to,
-  putHeadsTo-bytes,
-  putHeadsTo-outside,
-}
+use Rattle.rules.proofs.Rises.{rises-le, rises-front, rises-back}
+use Rattle.rules.proofs.Lists.{first-or, first-append, Holds, same-heads, holds-same, no-head, heads-to, putHeadsTo-bytes, putHeadsTo-outside}
 
 -- ---- a list in two parts, and a list that stands
 

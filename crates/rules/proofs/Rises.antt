@@ -7,14 +7,9 @@ use native.Mathlib.Omega.{arith}
 use Rattle.rules.specs.declared.Addr.{Addr}
 use Rattle.rules.specs.declared.Hole.{Hole}
 use Rattle.rules.specs.declared.Heap.{Heap}
-use Rattle.rules.specs.Fixed.{minSize}
 use Rattle.rules.specs.Sound.{soundHoles}
-use Rattle.rules.proofs.Walk.{Fair, behind, walks, floorOf, walks-head, walks-tail, floor-low, sound-walk}
-
--- the holes rise from lo to hi, each with room for its head, none overlapping the next
-abbrev pub Rises : ℕ → ℕ → List Hole → Type 0
-Rises lo hi [] = lo ≤ hi
-Rises lo hi (k ∷ ks) = (lo ≤ k .addr .0) × (minSize ≤ k .size) × Rises (k .addr .0 + k .size) hi ks
+use Rattle.rules.specs.Inner.{Fair, behind, Rises, endOr}
+use Rattle.rules.proofs.Walk.{walks, floorOf, walks-head, walks-tail, floor-low, sound-walk}
 
 pub rises-le : (lo hi : ℕ) (ks : List Hole) → Rises lo hi ks → lo ≤ hi
 rises-le lo hi [] r = r
@@ -28,11 +23,6 @@ rises-widen lo′ lo hi hi′ (k ∷ ks) a b r = (
   r .1,
   rises-widen (k .addr .0 + k .size) (k .addr .0 + k .size) hi hi′ ks (omega arith) b (r .2),
 )
-
--- the end of the last hole, or lo if there is none
-abbrev pub endOr : ℕ → List Hole → ℕ
-endOr lo [] = lo
-endOr lo (k ∷ ks) = endOr (k .addr .0 + k .size) ks
 
 -- ---- two lists in a row
 

@@ -23,9 +23,10 @@ use Rattle.rules.specs.Outcome.{decided, outcome}
 use Rattle.rules.specs.Runs.{Fits}
 use Rattle.rules.specs.Behaviour.{ours}
 use Rattle.rules.specs.Statements.{SoundKept}
+use Rattle.rules.specs.Inner.{Fair}
 use Rattle.rules.proofs.Cases.{by-test, and-left, and-right, or-left}
 use Rattle.rules.proofs.Layouts.{rounded-multiple, rounded-least, layout-passed}
-use Rattle.rules.proofs.Walk.{Fair, sound-fair, sound-count}
+use Rattle.rules.proofs.Walk.{sound-fair, sound-count}
 use Rattle.rules.proofs.SoundWords.{fair-words}
 use Rattle.rules.proofs.AllocateKept.{allocate-kept}
 use Rattle.rules.proofs.FreeKept.{renewed-fair, free-sound, gather-fair, gather-sound, grow-fair, grow-sound}

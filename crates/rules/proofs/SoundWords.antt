@@ -20,12 +20,13 @@ use Rattle.rules.specs.Calls.{left, onlyHole}
 use Rattle.rules.specs.InWords.{Gap, endOf, sum, SoundNumbers, SoundHole, SoundHoles, Sound, Rounds, Left}
 use Rattle.rules.specs.Behaviour.{ours}
 use Rattle.rules.specs.Statements.{SoundMeans}
+use Rattle.rules.specs.Inner.{Fair}
 use Rattle.rules.proofs.Cases.{and-left, and-right, both, last, all-each, each-all}
 use Rattle.rules.proofs.Gaps.{gap-words, words-gap}
 use Rattle.rules.proofs.Multiples.{up-is, above-is, down-is, below-is}
 use Rattle.rules.proofs.Powers.{power-pos, grain-power}
 use Rattle.rules.proofs.Layouts.{rounded-is, is-rounded}
-use Rattle.rules.proofs.Walk.{Fair, sound-fair, fair-sound}
+use Rattle.rules.proofs.Walk.{sound-fair, fair-sound}
 
 -- ---- the roundings
 

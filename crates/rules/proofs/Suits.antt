@@ -15,10 +15,10 @@ use Rattle.rules.specs.Kinds.{plus, multipleOf, raised}
 use Rattle.rules.specs.Holes.{end}
 use Rattle.rules.specs.Allocate.{candidate, suits, Found, nothing, found, later, find}
 use Rattle.rules.specs.InWords.{Gap, endOf, Lies, RoomAt}
+use Rattle.rules.specs.Inner.{Rises}
 use Rattle.rules.proofs.Cases.{by-eq, by-test, both, apart, some-cases}
 use Rattle.rules.proofs.Multiples.{multiples-apart, multiple-trans, up-is}
 use Rattle.rules.proofs.Powers.{power-pos, eight-or-more}
-use Rattle.rules.proofs.Rises.{Rises}
 use Rattle.rules.proofs.Gaps.{words-gap, gap-le}
 use Rattle.rules.proofs.Used.{find-splits, candidate-gap, candidate-low, suits-fits, suits-gap}
 

@@ -14,10 +14,11 @@ use Rattle.rules.specs.Holes.{hole, end, total}
 use Rattle.rules.specs.Sound.{gap}
 use Rattle.rules.specs.Allocate.{candidate, suits, Found, nothing, found, later, find, remains, split}
 use Rattle.rules.specs.InWords.{Gap}
+use Rattle.rules.specs.Inner.{Rises, endOr}
 use Rattle.rules.proofs.Cases.{by-test, and-left, and-right}
 use Rattle.rules.proofs.Gaps.{gap-words, gap-le, gap-apart}
 use Rattle.rules.proofs.Multiples.{up-is}
-use Rattle.rules.proofs.Rises.{Rises, rises-widen, endOr, rises-front, rises-back, rises-append}
+use Rattle.rules.proofs.Rises.{rises-widen, rises-front, rises-back, rises-append}
 use Rattle.rules.proofs.Totals.{total-append}
 
 -- ---- the first suiting hole

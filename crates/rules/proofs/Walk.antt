@@ -3,7 +3,7 @@ use mathlib.Core.Path.{_≡_, refl, sym, _∙_}
 use mathlib.Core.Bool.{Bool, true, _&&_, cond}
 use mathlib.Core.List.{List, [], _∷_}
 use mathlib.Core.Logic.{inl, inr, ⊎-elim}
-use Prim.Native.Nat.{_+_, _*_, _%_, _≤_, _<_}
+use Prim.Native.Nat.{_+_, _*_, _%_, _≤_}
 use native.Mathlib.Omega.{arith}
 use lib.Dec.{leb, eqb}
 use lib.ListN.{length}
@@ -11,28 +11,17 @@ use borrow.Author.Tests.{leb-true, eqb-true, eqb-false, le-leb, eq-eqb}
 use Rattle.rules.specs.declared.Addr.{Addr}
 use Rattle.rules.specs.declared.Hole.{Hole}
 use Rattle.rules.specs.declared.Heap.{Heap}
-use Rattle.rules.specs.Fixed.{minSize, grain, arenaLimit, addrLimit}
-use Rattle.rules.specs.Tests.{all, any}
-use Rattle.rules.specs.Kinds.{plus, same, notAfter, multipleOf}
+use Rattle.rules.specs.Fixed.{minSize, grain}
+use Rattle.rules.specs.Tests.{all}
+use Rattle.rules.specs.Kinds.{plus, same, notAfter}
 use Rattle.rules.specs.Holes.{end, total}
 use Rattle.rules.specs.Sound.{size, numberRules, soundNumbers, gap, holeRules, lie, rise, leaveBefore, leaveAfter, listRules, soundHoles, most}
 use Rattle.rules.specs.InWords.{Gap}
+use Rattle.rules.specs.Inner.{Fair, headRules, behind, ends}
 use Rattle.rules.proofs.Cases.{cases, iff, by-test, and-left, and-right, both, last, all-each, each-all}
 use Rattle.rules.proofs.Gaps.{gap-words, words-gap, gap-le, gap-apart}
 
 -- ---- the rules on the numbers, as numbers
-
-pub record Fair (h : Heap) : Type 0 where
-  pub base : 1 ≤ h .base .0
-  pub small : h .len ≤ arenaLimit
-  pub low : h .base .0 + h .len ≤ addrLimit
-  pub bottom : h .base .0 ≤ h .bottom .0
-  pub near : h .bottom .0 < h .base .0 + grain
-  pub bottom8 : h .bottom .0 % grain ≡ 0
-  pub top8 : h .top .0 % grain ≡ 0
-  pub room : h .bottom .0 + minSize ≤ h .top .0
-  pub pending : h .pending ≤ 15
-  pub fits : h .top .0 + h .pending ≤ h .base .0 + h .len
 
 pub sound-fair : (h : Heap) → soundNumbers h ≡ true → Fair h
 unfolding soundNumbers
@@ -44,17 +33,7 @@ fair-sound h f = each-all (numberRules h) (omega (arith, le-leb, eq-eqb))
 
 -- ---- the walk
 
--- what a head must show behind a floor
-abbrev pub headRules : Heap → Addr → Hole → List Bool
-headRules h floor k =
-    notAfter floor (k .addr)
-    ∷ multipleOf grain (k .addr)
-    ∷ eqb (k .size % grain) 0
-    ∷ leb minSize (k .size)
-    ∷ notAfter (end k) (h .top)
-    ∷ []
-
--- the same, as numbers
+-- what a head must show, as numbers
 pub record Keeps (h : Heap) (floor : Addr) (k : Hole) : Type 0 where
   pub above : floor .0 ≤ k .addr .0
   pub addr8 : k .addr .0 % grain ≡ 0
@@ -67,14 +46,6 @@ rules-keep h floor k e = let r = all-each (headRules h floor k) e in omega (arit
 
 pub keep-rules : (h : Heap) (floor : Addr) (k : Hole) → Keeps h floor k → all (headRules h floor k) ≡ true
 keep-rules h floor k r = each-all (headRules h floor k) (omega (arith, le-leb, eq-eqb))
-
--- the floor behind a hole
-abbrev pub behind : Hole → Addr
-behind k = plus (end k) minSize
-
--- behind the last hole 0 or at least 16 bytes are left
-unfoldable pub ends : Heap → Addr → Bool
-ends h floor = any (notAfter floor (h .top) ∷ same floor (plus (h .top) minSize) ∷ [])
 
 -- every head from a floor on shows what it must
 unfoldable pub walks : Heap → Addr → List Hole → Bool

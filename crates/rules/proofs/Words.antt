@@ -16,11 +16,8 @@ use lib.Seq.{
   drop-set-add,
 }
 use Rattle.rules.specs.Words.{word, store}
+use Rattle.rules.specs.Inner.{Bytes}
 use Rattle.rules.proofs.Cases.{by-eq, by-le}
-
--- every element is a byte; past the end getD gives 0, which is one
-abbrev pub Bytes : List ℕ → Type 0
-Bytes m = (j : ℕ) → getD m j 0 < 256
 
 -- the k bytes from index i on are the same in both
 abbrev pub Agree : List ℕ → List ℕ → ℕ → ℕ → Type 0

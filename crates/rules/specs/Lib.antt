@@ -18,6 +18,8 @@ pub mod Readers
 pub mod Refusals
 pub mod Answers
 pub mod Outcome
+-- for the contracts below the calls
+pub mod Inner
 -- the demands: the paper's words as statements
 pub mod InWords
 pub mod Runs

@@ -17,18 +17,17 @@ use Rattle.rules.specs.declared.Place.{Place}
 use Rattle.rules.specs.declared.Hole.{Hole}
 use Rattle.rules.specs.declared.Heap.{Heap}
 use Rattle.rules.specs.declared.Answer.the-variants.{Allocated}
-use Rattle.rules.proofs.Words.{Bytes}
+use Rattle.rules.specs.Inner.{Bytes, firstOr, putHeadsTo, Fair, Rises, endOr}
 use Rattle.rules.proofs.Powers.{power-pos}
-use Rattle.rules.proofs.Walk.{Fair}
-use Rattle.rules.proofs.Rises.{Rises, rises-le, rises-widen, endOr, rises-front, rises-back}
-use Rattle.rules.proofs.Lists.{firstOr, first-or, first-append, Holds, holds-split, putHeadsTo}
+use Rattle.rules.proofs.Rises.{rises-le, rises-widen, rises-front, rises-back}
+use Rattle.rules.proofs.Lists.{first-or, first-append, Holds, holds-split}
 use Rattle.rules.proofs.Relink.{put-append, before-stands, relink}
 use Rattle.rules.proofs.Used.{candidate-low, suits-fits, suits-leaves, used-rises, find-total}
 use Rattle.cursor.specs.Walk.{Asked, startOf}
 use Rattle.fitting.specs.FirstFit.{searchOf}
 use Rattle.fitting.specs.declared.Fit.{Fit}
 use Rattle.fitting.specs.declared.Search.the-variants as search
-use Rattle.cursor.proofs.Passed.{lastPlace}
+use Rattle.cursor.specs.Walk.{lastPlace}
 use Rattle.fitting.proofs.ToFit.{Fits, fit-at}
 use Rattle.hole_list.specs.Settled.{Settled, leadingTo, linkedHeap, linkedArena}
 use Rattle.hole_list.proofs.Linked.{last-inside, linked-arena, linked-heap}

@@ -18,8 +18,9 @@ use Rattle.rules.specs.declared.Addr.{Addr}
 use Rattle.rules.specs.declared.Place.{Place}
 use Rattle.rules.specs.declared.Hole.{Hole}
 use Rattle.rules.specs.declared.Heap.{Heap}
+use Rattle.rules.specs.Inner.{Fair, headRules, behind, ends}
 use Rattle.rules.proofs.Cases.{by-test}
-use Rattle.rules.proofs.Walk.{Fair, headRules, behind, ends, walks}
+use Rattle.rules.proofs.Walk.{walks}
 use Rattle.rules.proofs.Freed.{Past}
 use Rattle.cursor.specs.declared.Cursor.{Cursor}
 use Rattle.spotting.specs.declared.Near.{Near}
@@ -31,7 +32,8 @@ use Rattle.cursor.specs.Walk.{Enough, startOf, lastOf, stepOf, cursorAt}
 use Rattle.spotting.specs.Nearest.{nearAt, stoppedNear, nearOf}
 use Rattle.cursor.proofs.Step as Steps
 use Rattle.cursor.proofs.Turn.{Turn, StartsBad, turn-at, turn-goes, turn-stops, start}
-use Rattle.cursor.proofs.Passed.{lastPlace, lastFloor}
+use Rattle.cursor.proofs.Passed.{lastFloor}
+use Rattle.cursor.specs.Walk.{lastPlace}
 
 -- ---- the turns of the loop
 

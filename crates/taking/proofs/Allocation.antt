@@ -25,10 +25,10 @@ use Rattle.rules.specs.declared.Hole.{Hole}
 use Rattle.rules.specs.declared.Heap.{Heap}
 use Rattle.rules.specs.declared.Done.{Done}
 use Rattle.rules.specs.declared.Refusal.the-variants.{NotSound}
+use Rattle.rules.specs.Inner.{Fair, headRules, behind, ends, sifted}
 use Rattle.rules.proofs.Cases.{cases, by-test}
-use Rattle.rules.proofs.Walk.{Fair, headRules, rules-keep, behind, ends}
+use Rattle.rules.proofs.Walk.{rules-keep}
 use Rattle.rules.proofs.Totals.{total-append}
-use Rattle.rules.proofs.Decide.{sifted}
 use Rattle.cursor.specs.Walk.{Enough, startOf, lastOf, walkedOf}
 use Rattle.fitting.specs.FirstFit.{stoppedSearch, searchOf}
 use Rattle.fitting.specs.declared.Fit.{Fit}

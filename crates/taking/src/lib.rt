@@ -17,11 +17,10 @@ ghost use Rattle.rules.specs.Sound.{holes};
 ghost use Rattle.rules.specs.Allocate.{find};
 ghost use Rattle.rules.specs.Calls.{taken};
 ghost use Rattle.rules.specs.Outcome.{Is, leaves};
-ghost use Rattle.rules.proofs.Walk.{Fair};
+ghost use Rattle.rules.specs.Inner.{Fair, sifted};
 ghost use Rattle.cursor.specs.Walk.{Asked};
 ghost use Rattle.hole_list.specs.Settled.{Ready};
 ghost use Rattle.taking.specs.NoHole.{noFit};
-ghost use Rattle.rules.proofs.Decide.{sifted};
 
 // No hole suits, or a head breaks a rule.
 fn no_fit(h: Heap, found: Search) -> Done

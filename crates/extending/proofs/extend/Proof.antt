@@ -9,8 +9,8 @@ use Rattle.rules.specs.Calls.{extend}
 use Rattle.rules.specs.Outcome.{leaves, after, Is}
 use Rattle.rules.specs.declared.Heap.{Heap}
 use Rattle.rules.specs.declared.Done.{Done}
-use Rattle.rules.proofs.Walk.{Fair, fair-sound}
-use Rattle.rules.proofs.Decide.{sifted, extending}
+use Rattle.rules.specs.Inner.{Fair, sifted, extending}
+use Rattle.rules.proofs.Walk.{fair-sound}
 use Rattle.rules.proofs.Calls.{is-left, extend-on}
 use Rattle.numbers.proofs.Verdicts.{tested-fair, tested-no}
 use Rattle.extending.proofs.extend.Statement.{statement}

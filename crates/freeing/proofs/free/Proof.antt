@@ -14,8 +14,8 @@ use Rattle.rules.specs.declared.Heap.{Heap}
 use Rattle.rules.specs.declared.Done.{Done}
 use Rattle.rules.specs.declared.Refusal.the-variants.{NotSound, BadLayout}
 use Rattle.rules.specs.declared.Layout.the-variants.{Rounded, Bad}
-use Rattle.rules.proofs.Walk.{Fair, fair-sound}
-use Rattle.rules.proofs.Decide.{sifted, freeing}
+use Rattle.rules.specs.Inner.{Fair, sifted, freeing}
+use Rattle.rules.proofs.Walk.{fair-sound}
 use Rattle.rules.proofs.Calls.{is-left, free-6, free-on}
 use Rattle.numbers.proofs.Verdicts.{tested-fair, tested-no}
 use Rattle.hole_list.proofs.Requests.{tested-bad, tested-asked}

@@ -6,7 +6,7 @@ use borrow.Author.Needs.{needs}
 use borrow.Author.Tests.{not-true, not-false}
 use Rattle.rules.specs.Holes.{hole}
 use Rattle.rules.specs.Sound.{soundHoles, holes}
-use Rattle.rules.proofs.Decide.{freeing}
+use Rattle.rules.specs.Inner.{freeing}
 use Rattle.spotting.specs.declared.Near.{Near}
 use Rattle.giving.specs.SpanTests.{mayFree}
 use Rattle.hole_list.proofs.Sifted.{broken-is}

@@ -6,7 +6,7 @@ use native.Mathlib.Omega.{arith}
 use borrow.Author.Needs.{needs}
 use borrow.Author.Tests.{not-true, not-false}
 use Rattle.rules.specs.Sound.{soundHoles, holes}
-use Rattle.rules.proofs.Decide.{extending}
+use Rattle.rules.specs.Inner.{extending}
 use Rattle.spotting.specs.declared.Near.{Near}
 use Rattle.hole_list.proofs.Sifted.{broken-is}
 use Rattle.joining.proofs.Neighbours.{near-broken, Sought, seeks}

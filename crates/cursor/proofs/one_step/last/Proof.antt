@@ -1,10 +1,10 @@
 -- `cursor::one_step::last` meets its contract: its tests are those of the definition, in their order. Assumes nothing.
 use borrow.Author.Needs.{needs}
 use borrow.Author.Tests.{le-leb, lt-leb, eq-eqb, ne-eqb}
-use Rattle.rules.proofs.Walk.{ends}
 use Rattle.cursor.specs.Walk.{lastOf}
 use Rattle.cursor.proofs.one_step.last.Statement.{statement}
 use Rattle.cursor.proofs.one_step.last.Tie as tie
+use Rattle.rules.specs.Inner.{ends}
 
 returns : tie.Need-returns
 unfolding lastOf ends

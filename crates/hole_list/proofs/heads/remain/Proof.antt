@@ -4,7 +4,7 @@ use mathlib.Core.Path.{_∙_}
 use borrow.Author.Needs.{needs}
 use borrow.Author.Tests.{eq-eqb, ne-eqb}
 use Rattle.rules.specs.Allocate.{remains}
-use Rattle.rules.proofs.Lists.{putHeadsTo}
+use Rattle.rules.specs.Inner.{putHeadsTo}
 use Rattle.hole_list.proofs.heads.remain.Statement.{statement}
 use Rattle.hole_list.proofs.heads.remain.Tie as tie
 
