@@ -9,7 +9,7 @@
 build_library() {
     local faces='c_box c_reports c_readers' face
     # what they build on first: `rt check` proves rooms side by side, `rt staticlib` one after the other
-    RT_JOBS="${RT_JOBS:-6}" rt check $(for face in $faces; do sed -n "s/^$face: *//p" crates.txt; done | tr ' ' '\n' | sort -u) || return
+    RT_JOBS="${RT_JOBS:-4}" rt check $(for face in $faces; do sed -n "s/^$face: *//p" crates.txt; done | tr ' ' '\n' | sort -u) || return
     # `rt staticlib` takes the exports of one crate: the objects of the three are joined
     rm -rf target/staticlib/objects && mkdir -p target/staticlib/objects || return
     for face in $faces; do
