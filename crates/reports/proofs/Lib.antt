@@ -1,7 +1,5 @@
 -- The laws that the proofs of this crate and of those above it share, by subject.
 
--- numbers that pass their tests
-pub mod Lends
 -- the rows of a report
 pub mod Filled
 -- a survey, and the reports by it

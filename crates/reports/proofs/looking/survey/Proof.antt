@@ -1,7 +1,8 @@
 -- `reports::looking::survey` meets its contract: the tests, then a walk to the end, decide 3, 4 and 5. Assumes nothing.
 use mathlib.Core.Path.{sym, _∙_}
 use borrow.Author.Needs.{needs}
-use Rattle.reports.proofs.Lends.{tested-lent}
+use Rattle.numbers.proofs.Verdicts.{tested-fair}
+use Rattle.cursor.proofs.Lends.{lends}
 use Rattle.reports.proofs.Surveyed.{walk-asks, walk-all, walk-broken, walk-sum, walk-found, survey-no, survey-broken, survey-sound}
 use Rattle.reports.proofs.looking.survey.Statement.{statement}
 use Rattle.reports.proofs.looking.survey.Tie as tie
@@ -29,15 +30,16 @@ first-floor-requires c κs =
     let k = c .before .before in
     let a = k .before in
     let s = a .before .before .before in
-    let l = tested-lent (s .args .h) (s .args .arena .now) (a .before .arena-len .ensures .0) (a .check .ensures) (k .match .keys2) in
-    l .fair
+    let t = tested-fair (s .args .h) (s .args .arena .now) (a .before .arena-len .ensures .0) (a .check .ensures) (k .match .keys2) in
+    t .0
 
 walk-requires : tie.Need-walk-requires
 walk-requires c κs =
     let k = c .before .before .before in
     let a = k .before in
     let s = a .before .before .before in
-    let l = tested-lent (s .args .h) (s .args .arena .now) (a .before .arena-len .ensures .0) (a .check .ensures) (k .match .keys2) in
+    let t = tested-fair (s .args .h) (s .args .arena .now) (a .before .arena-len .ensures .0) (a .check .ensures) (k .match .keys2) in
+    let l = lends (s .args .h) (s .args .arena .now) t in
     walk-asks (s .args .h) (s .args .arena .now) l (c .first-floor .ensures)
 
 enum-known-walked : tie.Need-enum-known-walked
@@ -52,7 +54,8 @@ returns-2 c =
     let k = w .before .before .before .before in
     let a = k .before in
     let s = a .before .before .before in
-    let l = tested-lent (s .args .h) (s .args .arena .now) (a .before .arena-len .ensures .0) (a .check .ensures) (k .match .keys2) in
+    let t = tested-fair (s .args .h) (s .args .arena .now) (a .before .arena-len .ensures .0) (a .check .ensures) (k .match .keys2) in
+    let l = lends (s .args .h) (s .args .arena .now) t in
     let all = walk-all (s .args .h) (s .args .arena .now) l (w .before .first-floor .ensures) (w .walk .ensures) in
     survey-broken (s .args .h) (s .args .arena .now) l (walk-broken (s .args .h) (s .args .arena .now) l all (c .before .match2 .keys2))
 
@@ -61,8 +64,8 @@ sums-up-requires c κs =
     let k = c .before .before .before .before .before .before .before in
     let a = k .before in
     let s = a .before .before .before in
-    let l = tested-lent (s .args .h) (s .args .arena .now) (a .before .arena-len .ensures .0) (a .check .ensures) (k .match .keys2) in
-    l .fair
+    let t = tested-fair (s .args .h) (s .args .arena .now) (a .before .arena-len .ensures .0) (a .check .ensures) (k .match .keys2) in
+    t .0
 
 returns-3 : tie.Need-returns-3
 returns-3 c =
@@ -71,7 +74,8 @@ returns-3 c =
     let k = w .before .before .before .before in
     let a = k .before in
     let s = a .before .before .before in
-    let l = tested-lent (s .args .h) (s .args .arena .now) (a .before .arena-len .ensures .0) (a .check .ensures) (k .match .keys2) in
+    let t = tested-fair (s .args .h) (s .args .arena .now) (a .before .arena-len .ensures .0) (a .check .ensures) (k .match .keys2) in
+    let l = lends (s .args .h) (s .args .arena .now) t in
     let all = walk-all (s .args .h) (s .args .arena .now) l (w .before .first-floor .ensures) (w .walk .ensures) in
     let e = walk-sum (s .args .h) (s .args .arena .now) l all (y .walked .given .1) ∙ sym (c .before .sums-up .ensures) ∙ c .if1 .taken in
     survey-sound (s .args .h) (s .args .arena .now) l e (walk-found (s .args .h) (s .args .arena .now) l all (y .walked .given .1) e)
@@ -83,7 +87,8 @@ returns-4 c =
     let k = w .before .before .before .before in
     let a = k .before in
     let s = a .before .before .before in
-    let l = tested-lent (s .args .h) (s .args .arena .now) (a .before .arena-len .ensures .0) (a .check .ensures) (k .match .keys2) in
+    let t = tested-fair (s .args .h) (s .args .arena .now) (a .before .arena-len .ensures .0) (a .check .ensures) (k .match .keys2) in
+    let l = lends (s .args .h) (s .args .arena .now) t in
     let all = walk-all (s .args .h) (s .args .arena .now) l (w .before .first-floor .ensures) (w .walk .ensures) in
     survey-broken (s .args .h) (s .args .arena .now) l
     (walk-sum (s .args .h) (s .args .arena .now) l all (y .walked .given .1) ∙ sym (c .before .sums-up .ensures) ∙ c .if1 .left)
