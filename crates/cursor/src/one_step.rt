@@ -8,7 +8,6 @@ use rules::Hole;
 use rules::MIN_SIZE;
 use rules::NONE;
 use rules::Place;
-use std::num::wrapping_sub_u64;
 ghost use mathlib.Core.Path.{_≡_};
 ghost use Rattle.cursor.specs.Walk.{Lent, startOf, lastOf, stepOf};
 ghost use Rattle.rules.specs.Inner.{Fair};
@@ -41,9 +40,9 @@ fn last(h: Heap, floor: Addr) -> Step
     Step::Bad
 }
 
-// What stands at a place, the next hole lying nowhere below the floor. The tests are joined so that a
-// head costs few instructions: a place within reach is not none; two multiples of 8 are tested as one,
-// by their `|`; and a size below the least wraps far beyond what is left up to top.
+// What stands at a place, the next hole lying nowhere below the floor. The tests are joined where a
+// head costs fewer instructions so: a place within reach is not none, and two multiples of 8 are tested
+// as one, by their `|`.
 pub fn next(h: Heap, arena: &[u8], at: Place, floor: Addr) -> Step
     requires { ⌜ Lent h (now arena) ⌝ }
     ensures { λ r. ⌜ r ≡ stepOf h (now (arena .entry)) at floor ⌝ }
@@ -66,8 +65,10 @@ pub fn next(h: Heap, arena: &[u8], at: Place, floor: Addr) -> Step
     if (addr | size) % GRAIN != 0 {
         return Step::Bad;
     }
-    let more = wrapping_sub_u64(size, MIN_SIZE);
-    if top - addr - MIN_SIZE < more {
+    if size < MIN_SIZE {
+        return Step::Bad;
+    }
+    if top - addr < size {
         return Step::Bad;
     }
     let next = head.next;

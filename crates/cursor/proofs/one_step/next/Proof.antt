@@ -49,24 +49,25 @@ returns-4 c =
     (λ e. omega (arith, e)) (s .read-head .result) (s .read-head .ensures)
     (λ r. c .if4 .taken (eight-both _ _ (r .addr8) (r .size8)))
 
-wrapping-sub-u64-requires : tie.Need-wrapping-sub-u64-requires
-wrapping-sub-u64-requires c κs = search needs
-
-sub-if5 : tie.Need-sub-if5
-sub-if5 c = search needs
-
-sub-if5-2 : tie.Need-sub-if5-2
-sub-if5-2 c = search needs
-
 returns-5 : tie.Need-returns-5
 returns-5 c =
+    let s = c .before .before .before .before in
+    let a = s .before .before .before .args in
+    broken (a .h) (a .arena .now) (a .at) (a .floor)
+    (λ e. omega (arith, e)) (s .read-head .result) (s .read-head .ensures) (λ r. omega arith)
+
+sub-if6 : tie.Need-sub-if6
+sub-if6 c = search needs
+
+returns-6 : tie.Need-returns-6
+returns-6 c =
     let s = c .before .before .before .before .before in
     let a = s .before .before .before .args in
     broken (a .h) (a .arena .now) (a .at) (a .floor)
     (λ e. omega (arith, e)) (s .read-head .result) (s .read-head .ensures) (λ r. omega arith)
 
-returns-6 : tie.Need-returns-6
-returns-6 c =
+returns-7 : tie.Need-returns-7
+returns-7 c =
     let s = c .before .before .before .before .before .before in
     let a = s .before .before .before .args in
     let eights = both-eight (a .h .base .0 + a .at .0) (s .read-head .result .size) (c .before .before .before .if4 .left) in
@@ -86,8 +87,7 @@ next-spec =
     add-addr
     returns-3
     returns-4
-    wrapping-sub-u64-requires
-    sub-if5
-    sub-if5-2
     returns-5
-    returns-6)
+    sub-if6
+    returns-6
+    returns-7)
