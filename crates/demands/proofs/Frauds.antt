@@ -1,73 +1,110 @@
--- No behaviour that commits a fraud meets the statements. One that is to be seen in every call is caught on one heap, where it does not do
--- as ours does; one that is committed once is caught there, by a statement. Assumes nothing.
+-- Each fraud can be committed, and no behaviour that commits it meets the statements. One that is to be seen in every call is caught on
+-- one heap, where it does not do as ours does; one that is committed once is caught there, by a statement. Assumes nothing.
 use mathlib.Core.Path.{_≡_, refl, sym, ap, _∙_}
 use mathlib.Core.List.{List, [], _∷_, List·Memᴰ, List·Memᴰ·head, List·Memᴰ·tail, List·Memᴰ·not-nil, List·Memᴰ·cases-cons, Memᴰ·append-right}
-use mathlib.Core.Logic.{⊎-elim}
+use mathlib.Core.Logic.{inl, ⊎-elim}
 use Prim.Native.Nat.{ℕ, _+_}
 use native.Mathlib.Omega.{arith}
 use lib.ListN.{length, getD}
 use Rattle.rules.specs.declared.Addr.{Addr}
 use Rattle.rules.specs.declared.Hole.{Hole}
-use Rattle.rules.specs.declared.Refusal.the-variants.{OtherLength}
+use Rattle.rules.specs.declared.Refusal.the-variants.{OtherLength, NotSound}
+use Rattle.rules.specs.declared.Answer.the-variants.{Opening, Allocated, Freed, Extended, Listed, Room, Refused}
 use Rattle.rules.specs.Kinds.{addr}
 use Rattle.rules.specs.Holes.{hole}
 use Rattle.rules.specs.Sound.{unopened}
 use Rattle.rules.specs.Calls.{allocate, extend, list, room}
 use Rattle.rules.specs.Outcome.{After}
-use Rattle.demands.specs.Frauds.{Frauds}
+use Rattle.rules.specs.Behaviour.{Behaviour}
+use Rattle.rules.specs.Statements.{Statements}
+use Rattle.demands.specs.Frauds.{Caught, Frauds}
 use Rattle.rules.proofs.SoundWords.{rounds-rounded}
-use Rattle.demands.proofs.Premises.{half}
+use Rattle.demands.proofs.Premises.{half, halves}
 use Rattle.demands.proofs.Settles.{noRows}
 use Rattle.demands.proofs.Determined.{by-outcome}
 use Rattle.demands.proofs.Caught.{refused-of, not-swapped, tested, granting, used-one}
+use Rattle.demands.proofs.Culprits.{answering, leaving, writing, allBelow, early, granted, uses-low, low-room, round, halves-sound}
 use Rattle.demands.proofs.Shown.{stage, stage-bytes, more, opens, shown, does, says, asked, askedMore, two, askedFree, saysFreed, empties, one, grantsAgain, saysOpen}
+
+-- a fraud, with one that commits it
+shut : {fraud : Behaviour → Type 0} (culprit : Behaviour) → fraud culprit → ((b : Behaviour) → fraud b → Statements b → ⊥) → Caught fraud
+shut culprit commits caught = record { culprit = culprit; commits = commits; caught = caught }
 
 pub frauds : Frauds
 frauds =
     record {
       everyOpeningRefused =
-          λ b f sb.
+          shut (answering [] (Refused NotSound)) (λ base named h m made z. (NotSound, refl))
+          (λ b f sb.
           let (r, e) = f (addr 0x1001) 74 unopened stage (omega arith, stage-bytes) refl in
           let q = saysOpen b sb in
-          let z : _≡_ {A = ℕ} 0 1 = cc in omega arith;
+          let z : _≡_ {A = ℕ} 0 1 = cc in omega arith);
       everyAllocateRefused =
-          λ b f sb.
+          shut (answering [] (Refused NotSound)) (λ s align h m asks. (NotSound, refl))
+          (λ b f sb.
           let (r, e) = f 24 8 half stage (asked b sb (allocate 24 8) (omega arith)) in
           let q = says b sb (allocate 24 8) half (omega arith) (shown .low) in
-          let z : _≡_ {A = ℕ} 0 1 = cc in omega arith;
+          let z : _≡_ {A = ℕ} 0 1 = cc in omega arith);
       everyFreeRefused =
-          λ b f sb.
+          shut (answering [] (Refused NotSound)) (λ x s align h m asks. (NotSound, refl))
+          (λ b f sb.
           let (r, e) = f (addr 0x1020) 16 16 half stage (askedFree b sb) in
           let q = saysFreed b sb in
-          let z : _≡_ {A = ℕ} 0 1 = cc in omega arith;
+          let z : _≡_ {A = ℕ} 0 1 = cc in omega arith);
       everyCallRefused =
-          λ b f sb.
+          shut (answering [] (Refused NotSound)) (λ c h m asks n. refl)
+          (λ b f sb.
           let e =
           f list half stage (asked b sb list tt) (λ base named p. let z : _≡_ {A = ℕ} 0 1 = cc in omega arith) in
           let q = says b sb list half tt (shown .lists) in
-          let z : _≡_ {A = ℕ} 0 1 = cc in omega arith;
-      testsSwapped = λ b (c, h, m, f, z, e) sb. not-swapped b sb c h m f z (refused-of b sb c h m OtherLength f e);
+          let z : _≡_ {A = ℕ} 0 1 = cc in omega arith);
+      testsSwapped =
+          shut (answering [] (Refused OtherLength)) (list, unopened, [], tt, refl, refl)
+          (λ b (c, h, m, f, z, e) sb. not-swapped b sb c h m f z (refused-of b sb c h m OtherLength f e));
       sumNotTested =
-          λ b (c, h, m, f, open′, n, accepts) sb.
+          shut (answering [] (Room 0 0)) (
+            room,
+            half,
+            [],
+            tt,
+            (λ z. omega (arith, z)),
+            (λ z. omega (arith, z)),
+            (λ (r, e). let z : _≡_ {A = ℕ} 0 1 = cc in omega arith),
+          )
+          (λ b (c, h, m, f, open′, n, accepts) sb.
           let (r, e) = tested b sb h m open′ n c f in
-          accepts (r, sb .refusalsKeep c h m noRows r e .0);
+          accepts (r, sb .refusalsKeep c h m noRows r e .0));
       refusedWrites =
-          λ b (c, h, m, f, (r, e), n) sb.
+          shut (writing (Refused NotSound) []) (
+            list,
+            half,
+            0 ∷ [],
+            tt,
+            (NotSound, refl),
+            (λ (e, p). let z : _≡_ {A = ℕ} 0 1 = ap (λ (w : List ℕ). length w) p in omega (arith, z)),
+          )
+          (λ b (c, h, m, f, (r, e), n) sb.
           let k = sb .refusalsKeep c h m noRows r (refused-of b sb c h m r f e) in
-          n (k .1, k .2);
+          n (k .1, k .2));
       openingDropsPending =
-          λ b f sb.
+          shut (leaving (Opening (addr 0x1008) 64) (λ c. unopened)) (λ base bottom named s h m made z e. refl)
+          (λ b f sb.
           let e = f (addr 0x1001) (addr 0x1008) 74 64 unopened stage (omega arith, stage-bytes) refl (saysOpen b sb) in
           let q = ap (λ (x : After). x .heap .pending) (does b sb opens unopened (omega arith)) in
-          omega (arith, shown .rest, e, q);
+          omega (arith, shown .rest, e, q));
       pendingInSize =
-          λ b f sb.
+          shut (leaving (Opening (addr 0x1008) 64) allBelow) (λ base bottom named s h m made z e. refl)
+          (λ b f sb.
           let e = f (addr 0x1001) (addr 0x1008) 74 64 unopened stage (omega arith, stage-bytes) refl (saysOpen b sb) in
           let q = ap (λ (x : After). x .heap .top .0) (does b sb opens unopened (omega arith)) in
-          omega (arith, shown .tops, e, q);
-      unopenedNotZero = λ b n sb. n (sb .unopenedIs .first);
+          omega (arith, shown .tops, e, q));
+      unopenedNotZero =
+          shut early (λ z. omega (arith, z))
+          (λ b n sb. n (sb .unopenedIs .first));
       fixedAddress =
-          λ b (a, f) sb.
+          shut (answering [] (Allocated (addr 0x1008) 1))
+          ((λ h. addr 0x1008), (λ s align n x h m asks e. let z : x ≡ addr 0x1008 = cc in z))
+          (λ b (a, f) sb.
           let p =
           f 24 8 1 (addr 0x1008) half stage (asked b sb (allocate 24 8) (omega arith))
           (says b sb (allocate 24 8) half (omega arith) (shown .low)) in
@@ -75,50 +112,76 @@ frauds =
           f 24 16 2 (addr 0x1030) half stage (asked b sb (allocate 24 16) (omega arith))
           (says b sb (allocate 24 16) half (omega arith) (shown .high)) in
           let z : _≡_ {A = ℕ} 0x1008 0x1030 = ap (λ (x : Addr). x .0) (p ∙ sym q) in
-          omega (arith, z);
+          omega (arith, z));
       inventedCount =
-          λ b (g, u, n) sb. n (granting b sb g .count ∙ ap (λ (js : List Hole). length js + 1) (used-one b sb g u .0));
+          shut (answering halves (Allocated (addr 0x1008) 7))
+          (granted halves 24 0x1008 7 (omega arith), uses-low 24 0x1008 7 (omega arith) (omega arith), (λ z. omega (arith, z)))
+          (λ b (g, u, n) sb. n (granting b sb g .count ∙ ap (λ (js : List Hole). length js + 1) (used-one b sb g u .0)));
       frontOfEight =
-          λ b (g, u, e) sb.
+          shut (answering halves (Allocated (addr 0x1010) 1))
+          (granted halves 16 0x1010 1 (omega arith), uses-low 16 0x1010 1 (omega arith) (omega arith), refl)
+          (λ b (g, u, e) sb.
           let gap = rw (used-one b sb g u .1) at (granting b sb g .lies .front) in
-          ⊎-elim (λ p. omega (arith, e, p)) (λ p. omega (arith, e, p)) gap;
+          ⊎-elim (λ p. omega (arith, e, p)) (λ p. omega (arith, e, p)) gap);
       remainderKept =
-          λ b (g, u, r, rounds, e) sb.
+          shut (answering halves (Allocated (addr 0x1008) 1)) (
+            granted halves 16 0x1008 1 (omega arith),
+            uses-low 16 0x1008 1 (omega arith) (omega arith),
+            16,
+            round 16 refl (omega arith),
+            refl,
+          )
+          (λ b (g, u, r, rounds, e) sb.
           let d = granting b sb g in
           let is : d .rounded ≡ r = rounds-rounded (d .rounds) ∙ sym (rounds-rounded rounds) in
           let gap = rw (used-one b sb g u .1, is) at (d .lies .back) in
-          ⊎-elim (λ p. omega (arith, e, p)) (λ p. omega (arith, e, p)) gap;
+          ⊎-elim (λ p. omega (arith, e, p)) (λ p. omega (arith, e, p)) gap);
       notTheLowest =
-          λ b (g, r, rounds, x, some, l) sb.
+          shut (answering halves (Allocated (addr 0x1030) 2))
+          (granted halves 24 0x1030 2 (omega arith), 24, round 24 refl (omega arith), 0x1008, low-room, omega arith)
+          (λ b (g, r, rounds, x, some, l) sb.
           let d = granting b sb g in
           let is : r ≡ d .rounded = rounds-rounded rounds ∙ sym (rounds-rounded (d .rounds)) in
-          omega (arith, l, d .lowest x (rw is at some));
+          omega (arith, l, d .lowest x (rw is at some)));
       notFree =
-          λ b (g, r, rounds, y, w, n) sb.
+          shut (answering [] (Allocated (addr 0x1020) 1)) (
+            granted [] 16 0x1020 1 (omega arith),
+            16,
+            round 16 refl (omega arith),
+            0x1020,
+            omega arith,
+            (λ (k, in′, w). List·Memᴰ·not-nil in′),
+          )
+          (λ b (g, r, rounds, y, w, n) sb.
           let d = granting b sb g in
           let is : r ≡ d .rounded = rounds-rounded rounds ∙ sym (rounds-rounded (d .rounds)) in
           n (
             d .hole,
             rw (d .one) (Memᴰ·append-right (d .front) (List·Memᴰ·head refl)),
             (omega (arith, w .0, d .lies .from), omega (arith, w .1, is, d .lies .to)),
-          );
+          ));
       neverReused =
-          λ b f sb.
+          shut (answering [] (Freed 16 0))
+          (λ x s align r u t q n h m asks fits e p. let z : _≡_ {A = ℕ} 0 1 = cc in omega arith)
+          (λ b f sb.
           f (addr 0x1020) 16 16 16 0 16 16 1 half stage (askedFree b sb) (omega arith) (saysFreed b sb)
-          (rw (empties b sb) (grantsAgain b sb));
+          (rw (empties b sb) (grantsAgain b sb)));
       freeDoesNothing =
-          λ b f sb.
+          shut (answering halves (Freed 16 0)) (λ x s align r u h m asks e. refl)
+          (λ b f sb.
           let p = f (addr 0x1020) 16 16 16 0 half stage (askedFree b sb) (saysFreed b sb) in
           let q = rw (empties b sb) at p in
           let z : _≡_ {A = ℕ} 1 2 = ap (λ (ks : List Hole). length ks) (sym (one b sb) ∙ q ∙ two b sb) in
-          omega (arith, z);
+          omega (arith, z));
       freeKeepsUsed =
-          λ b f sb.
+          shut (answering halves (Freed 16 0)) (λ x s align r u h m asks e. refl)
+          (λ b f sb.
           let p = f (addr 0x1020) 16 16 16 0 half stage (askedFree b sb) (saysFreed b sb) in
           let q = ap (λ (x : After). x .heap .used) (empties b sb) in
-          omega (arith, p, q, shown .empty);
+          omega (arith, p, q, shown .empty));
       joinsBeforeOnly =
-          λ b f sb.
+          shut (answering halves (Freed 16 0)) (λ x s align r u h m k asks e in′ ends. in′)
+          (λ b f sb.
           let p =
           f (addr 0x1020) 16 16 16 0 half stage (hole (addr 0x1030) 24) (askedFree b sb) (saysFreed b sb)
           (rw (two b sb) (List·Memᴰ·tail (List·Memᴰ·head refl))) refl in
@@ -126,9 +189,10 @@ frauds =
           ⊎-elim
           (λ e. let z : _≡_ {A = ℕ} 24 64 = ap (λ (k : Hole). k .size) e in omega (arith, z))
           (λ d. List·Memᴰ·not-nil d)
-          (List·Memᴰ·cases-cons q);
+          (List·Memᴰ·cases-cons q));
       extendLosesPending =
-          λ b (left, f) sb.
+          shut (answering halves (Extended 80 1)) ((λ by. 1), (λ by s p h m asks l e. let z : p ≡ 1 = cc in z))
+          (λ b (left, f) sb.
           let p =
           f 14 80 1 half stage (asked b sb (extend 14) (omega arith)) (omega arith)
           (says b sb (extend 14) half (omega arith) (shown .grows)) in
@@ -136,23 +200,36 @@ frauds =
           f 14 80 2 more stage (askedMore b sb (extend 14) (omega arith)) (omega arith)
           (says b sb (extend 14) more (omega arith) (shown .growsMore)) in
           let z : _≡_ {A = ℕ} 1 2 = p ∙ sym q in
-          omega (arith, z);
+          omega (arith, z));
       listZeros =
-          λ b f sb.
+          shut (answering [] (Listed 0 0)) (λ x y h m asks e. inl (let z : x ≡ 0 = cc in z))
+          (λ b f sb.
           ⊎-elim (λ z. omega (arith, z)) (λ z. omega (arith, z))
-          (f 2 48 half stage (asked b sb list tt) (says b sb list half tt (shown .lists)));
+          (f 2 48 half stage (asked b sb list tt) (says b sb list half tt (shown .lists))));
       roomZeros =
-          λ b f sb.
+          shut (answering [] (Room 0 0)) (λ x y h m asks e. inl (let z : x ≡ 0 = cc in z))
+          (λ b f sb.
           ⊎-elim (λ z. omega (arith, z)) (λ z. omega (arith, z))
-          (f 24 2 half stage (asked b sb room tt) (says b sb room half tt (shown .reports)));
+          (f 24 2 half stage (asked b sb room tt) (says b sb room half tt (shown .reports))));
       scribble =
-          λ b (c, h, m, i, f, out, n) sb.
+          shut (writing (Room 0 0) (1 ∷ []))
+          (room, half, 0 ∷ [], 0, tt, (λ k in′ w. List·Memᴰ·not-nil in′), (λ e. let z : _≡_ {A = ℕ} 1 0 = e in omega (arith, z)))
+          (λ b (c, h, m, i, f, out, n) sb.
           by-outcome (b .outcome c h m)
           (λ r p. n (ap (λ (w : List ℕ). getD w i 0) (sb .refusalsKeep c h m noRows r p .2)))
           (λ a ks p. n (ap (λ (w : List ℕ). getD w i 0) (sb .tellsOnly c h m a ks p .2)))
           (λ a h′ ks p.
           let k = sb .memory c h m a h′ ks f p in
-          n (k .4 i (rw (k .1, k .3) at out)));
+          n (k .4 i (rw (k .1, k .3) at out))));
       headTurned =
-          λ b (h, m, k, back, s, e, n) sb. n ((rw e at (sb .holesMean h m .1 s)) .2);
+          shut (answering halves (Room 0 0)) (
+            half,
+            [],
+            hole (addr 0x1008) 24,
+            hole (addr 0x1030) 24 ∷ [],
+            halves-sound,
+            refl,
+            (λ e. let z : _≡_ {A = ℕ} 24 0 = e in omega (arith, z)),
+          )
+          (λ b (h, m, k, back, s, e, n) sb. n ((rw e at (sb .holesMean h m .1 s)) .2));
     }

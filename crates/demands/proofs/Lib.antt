@@ -21,6 +21,7 @@ pub mod Determined
 -- the frauds
 pub mod Caught
 pub mod Shown
+pub mod Culprits
 pub mod Frauds
 -- crates weighed by hand
 pub mod Weighed

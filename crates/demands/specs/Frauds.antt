@@ -1,5 +1,5 @@
--- The frauds and slips that the demands must shut out, each in one line and as a statement: no behaviour that commits it meets the
--- statements of the calls. The proof is proofs/Frauds.antt.
+-- The frauds and slips that the demands must shut out, each in one line and as a statement: it can be committed, and no behaviour that
+-- commits it meets the statements of the calls. The proof is proofs/Frauds.antt.
 use mathlib.Core.Path.{_≡_}
 use mathlib.Core.List.{List, _∷_, _++_, List·Memᴰ}
 use mathlib.Core.Logic.{_⊎_}
@@ -18,9 +18,11 @@ use Rattle.rules.specs.Runs.{Fits}
 use Rattle.rules.specs.Behaviour.{Behaviour, Good}
 use Rattle.rules.specs.Statements.{Statements}
 
--- no behaviour of which this is true meets the statements
-abbrev pub Caught : (Behaviour → Type 0) → Type 0
-Caught fraud = (b : Behaviour) → fraud b → Statements b → ⊥
+-- there are behaviours of which this is true, and none of them meets the statements
+pub record Caught (fraud : Behaviour → Type 0) : Type 0 where
+  pub culprit : Behaviour
+  pub commits : fraud culprit
+  pub caught : (b : Behaviour) → fraud b → Statements b → ⊥
 
 -- a call as it can be made: numbers below 2^64, memory of bytes
 abbrev pub Made : Call → List ℕ → Type 0

@@ -1,0 +1,107 @@
+-- Behaviours that commit a fraud, made as simply as they can be: whatever they are asked, they give one answer. What their frauds lean on.
+-- Assumes nothing.
+use mathlib.Core.Path.{_≡_, refl}
+use mathlib.Core.List.{List, [], _∷_, List·Memᴰ·head}
+use mathlib.Core.Logic.{inl}
+use Prim.Native.Nat.{ℕ, _+_, _≤_, _%_}
+use native.Mathlib.Omega.{arith}
+use Rattle.rules.specs.declared.Hole.{Hole}
+use Rattle.rules.specs.declared.Heap.{Heap}
+use Rattle.rules.specs.declared.Answer.{Answer}
+use Rattle.rules.specs.declared.Answer.the-variants.{Allocated}
+use Rattle.rules.specs.Kinds.{addr}
+use Rattle.rules.specs.Holes.{hole}
+use Rattle.rules.specs.Sound.{unopened}
+use Rattle.rules.specs.Calls.{Call, opening, allocate, free, extend, list, room}
+use Rattle.rules.specs.Outcome.{After}
+use Rattle.rules.specs.InWords.{Sound, Rounds, RoomAt, Within}
+use Rattle.rules.specs.Behaviour.{Behaviour, ours}
+use Rattle.rules.proofs.SoundWords.{sound-words}
+use Rattle.demands.specs.Frauds.{Grant, UsedHole}
+use Rattle.demands.proofs.Premises.{half, halves}
+use Rattle.demands.proofs.Shown.{shown}
+
+-- ours, with another heap before an opening, other holes and another end of each call
+abbrev bent : Heap → (Heap → List ℕ → List Hole) → (Call → Heap → List ℕ → After) → Behaviour
+bent first read end =
+    record {
+      unopened = first;
+      sound = ours .sound;
+      holes = read;
+      outcome = ours .outcome;
+      after = end;
+      rowsAfter = ours .rowsAfter;
+      reading = ours .reading;
+      answerNumbers = ours .answerNumbers;
+    }
+
+-- a heap before an opening that is not all zeros
+abbrev pub early : Behaviour
+early = bent half (ours .holes) (ours .after)
+
+-- one answer to all calls, which change nothing
+abbrev pub answering : List Hole → Answer → Behaviour
+answering ks a = bent unopened (λ h m. ks) (λ c h m. record { answer = a; heap = h; arena = m })
+
+-- one answer to all calls, which leave a heap of their own
+abbrev pub leaving : Answer → (Call → Heap) → Behaviour
+leaving a left = bent unopened (λ h m. []) (λ c h m. record { answer = a; heap = left c; arena = m })
+
+-- one answer to all calls, which leave these bytes
+abbrev pub writing : Answer → List ℕ → Behaviour
+writing a w = bent unopened (λ h m. []) (λ c h m. record { answer = a; heap = h; arena = w })
+
+-- all that is named lies below top
+abbrev pub allBelow : Call → Heap
+allBelow (opening base named) =
+    record {
+      base = base;
+      len = half .len;
+      bottom = half .bottom;
+      top = addr (base .0 + named);
+      first = half .first;
+      pending = 0;
+      used = 0;
+    }
+allBelow (allocate s align) = unopened
+allBelow (free x s align) = unopened
+allBelow (extend by) = unopened
+allBelow list = unopened
+allBelow room = unopened
+
+-- ---- what the frauds lean on
+
+-- a grant to all who ask
+abbrev pub granted : (ks : List Hole) (s at count : ℕ) → s ≤ 24 → Grant (answering ks (Allocated (addr at) count))
+granted ks s at count l =
+    record {
+      size = s;
+      align = 8;
+      heap = half;
+      arena = [];
+      at = at;
+      count = count;
+      fits = omega (arith, l);
+      answer = refl;
+    }
+
+-- the first of the two holes is the one that it uses
+abbrev pub uses-low : (s at count : ℕ) (l : s ≤ 24) → Within 0x1008 24 at
+    → UsedHole (answering halves (Allocated (addr at) count)) (granted halves s at count l)
+uses-low s at count l w =
+    record { front = []; hole = hole (addr 0x1008) 24; back = hole (addr 0x1030) 24 ∷ []; one = refl; inside = w }
+
+-- 24 bytes lie in it
+pub low-room : RoomAt 24 8 halves 0x1008
+low-room = (
+  hole (addr 0x1008) 24,
+  List·Memᴰ·head refl,
+  record { multiple = refl; from = omega arith; to = omega arith; front = inl refl; back = inl refl },
+)
+
+-- a size that is its own rounded size
+pub round : (s : ℕ) → s % 8 ≡ 0 → 16 ≤ s → Rounds s s
+round s e l = record { multiple = e; covers = omega arith; sixteen = l; least = λ y e c l. c }
+
+pub halves-sound : Sound half halves
+halves-sound = rw (shown .two) at (sound-words half _ (shown .good))
