@@ -1,4 +1,4 @@
--- Behaviours that commit a fraud, made as simply as they can be: whatever they are asked, they give one answer. What their frauds lean on.
+-- Behaviours that commit a fraud, made as simply as they can be: most give one answer, whatever they are asked. What their frauds lean on.
 -- Assumes nothing.
 use mathlib.Core.Path.{_≡_, refl}
 use mathlib.Core.List.{List, [], _∷_, List·Memᴰ·head}
@@ -8,7 +8,7 @@ use native.Mathlib.Omega.{arith}
 use Rattle.rules.specs.declared.Hole.{Hole}
 use Rattle.rules.specs.declared.Heap.{Heap}
 use Rattle.rules.specs.declared.Answer.{Answer}
-use Rattle.rules.specs.declared.Answer.the-variants.{Allocated}
+use Rattle.rules.specs.declared.Answer.the-variants.{Allocated, Freed}
 use Rattle.rules.specs.Kinds.{addr}
 use Rattle.rules.specs.Holes.{hole}
 use Rattle.rules.specs.Sound.{unopened}
@@ -68,6 +68,32 @@ allBelow (free x s align) = unopened
 allBelow (extend by) = unopened
 allBelow list = unopened
 allBelow room = unopened
+
+-- after a free the next grant is one byte behind what was given back
+abbrev past : Call → Heap → List ℕ → After
+past (opening base named) h m = ours .after (opening base named) h m
+past (allocate s align) h m = record { answer = Allocated (addr (h .used)) 1; heap = h; arena = m }
+past (free x s align) h m =
+    record {
+      answer = Freed 16 0;
+      heap =
+          record {
+            base = h .base;
+            len = h .len;
+            bottom = h .bottom;
+            top = h .top;
+            first = h .first;
+            pending = h .pending;
+            used = x .0 + 1;
+          };
+      arena = m;
+    }
+past (extend by) h m = ours .after (extend by) h m
+past list h m = ours .after list h m
+past room h m = ours .after room h m
+
+abbrev pub passing : Behaviour
+passing = bent unopened (λ h m. []) past
 
 -- ---- what the frauds lean on
 

@@ -23,7 +23,7 @@ use Rattle.demands.proofs.Premises.{half, halves}
 use Rattle.demands.proofs.Settles.{noRows}
 use Rattle.demands.proofs.Determined.{by-outcome}
 use Rattle.demands.proofs.Caught.{refused-of, not-swapped, tested, granting, used-one}
-use Rattle.demands.proofs.Culprits.{answering, leaving, writing, allBelow, early, granted, uses-low, low-room, round, halves-sound}
+use Rattle.demands.proofs.Culprits.{answering, leaving, writing, allBelow, early, passing, granted, uses-low, low-room, round, halves-sound}
 use Rattle.demands.proofs.Shown.{stage, stage-bytes, more, opens, shown, does, says, asked, askedMore, two, askedFree, saysFreed, empties, one, grantsAgain, saysOpen}
 
 -- a fraud, with one that commits it
@@ -161,8 +161,10 @@ frauds =
             (omega (arith, w .0, d .lies .from), omega (arith, w .1, is, d .lies .to)),
           ));
       neverReused =
-          shut (answering [] (Freed 16 0))
-          (λ x s align r u t q n h m asks fits e p. let z : _≡_ {A = ℕ} 0 1 = cc in omega arith)
+          shut passing
+          (λ x s align r u t q n h m asks fits e p.
+          let z : addr (x .0 + 1) ≡ x = cc in
+          omega (arith, ap (λ (a : Addr). a .0) z))
           (λ b f sb.
           f (addr 0x1020) 16 16 16 0 16 16 1 half stage (askedFree b sb) (omega arith) (saysFreed b sb)
           (rw (empties b sb) (grantsAgain b sb)));

@@ -45,13 +45,13 @@ freed-first g [] b = refl
 freed-first g (k ∷ ks) b = rw (lt-ltb (g .addr .0) (k .addr .0) b)
 
 -- one hole on: it ends before the span starts
-freed-step : (g k : Hole) (ks : List Hole) → end k .0 < g .addr .0 → freed g (k ∷ ks) ≡ k ∷ freed g ks
+pub freed-step : (g k : Hole) (ks : List Hole) → end k .0 < g .addr .0 → freed g (k ∷ ks) ≡ k ∷ freed g ks
 unfolding freed
 freed-step g k ks l =
     rw (le-ltb (g .addr .0) (k .addr .0) (omega arith), ne-eqb (end k .0) (g .addr .0) (λ e. omega (arith, e)))
 
 -- a span that starts where a hole ends lengthens that hole
-joins-before : (g k : Hole) (ks : List Hole) → k .addr .0 ≤ g .addr .0 → end k .0 ≡ g .addr .0
+pub joins-before : (g k : Hole) (ks : List Hole) → k .addr .0 ≤ g .addr .0 → end k .0 ≡ g .addr .0
     → freed g (k ∷ ks) ≡ inFront (joined k g) ks
 unfolding freed
 joins-before g k ks l e = rw (le-ltb (g .addr .0) (k .addr .0) l, eq-eqb (end k .0) (g .addr .0) e)
