@@ -6,8 +6,7 @@ use words::load;
 use words::tell;
 ghost use mathlib.Core.Path.{_≡_};
 ghost use Rattle.rules.specs.Calls as Calls;
-ghost use Rattle.rules.specs.Outcome.{after, rowsAfter};
-ghost use Rattle.reports.specs.Reports.{rows};
+ghost use Rattle.rules.specs.Outcome.{after, rows, rowsAfter};
 ghost use Rattle.words.specs.Face.{heapOf, Tells};
 
 // The size of the largest hole, the number of holes. Heap and arena are only read.

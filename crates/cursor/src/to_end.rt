@@ -8,6 +8,7 @@ use rules::MIN_SIZE;
 use rules::Place;
 ghost use mathlib.Core.Path.{_≡_};
 ghost use Prim.Native.Nat.{ℕ, _+_, _≤_, max};
+ghost use Rattle.rules.specs.Fixed.{minSize};
 ghost use Rattle.rules.specs.Holes.{holesFrom};
 ghost use Rattle.cursor.specs.Walk.{Lent, Enough, walkedOf, stoppedWalk};
 
@@ -36,7 +37,7 @@ fn stopped(st: Step, total: u64, count: u64, largest: u64) -> Walked
 // Every head from a place on, behind a floor, with the sum of the sizes before them. However far the
 // list is read, the answer is that of its holes.
 pub fn walk(h: Heap, arena: &[u8], from: Place, low: Addr, before: u64) -> Walked
-    requires { ⌜ Lent h (now arena) × (h .bottom .0 + before ≤ low .0) × (low .0 ≤ h .top .0 + 16) ⌝ }
+    requires { ⌜ Lent h (now arena) × (h .bottom .0 + before ≤ low .0) × (low .0 ≤ h .top .0 + minSize) ⌝ }
     ensures { λ r. ⌜ ((n : ℕ) → Enough h low n → r ≡ walkedOf h low before 0 0 (holesFrom n (h .base) (now (arena .entry)) from)) ⌝ }
 {
     let mut at = from;

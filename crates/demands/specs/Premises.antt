@@ -18,15 +18,12 @@ use Rattle.rules.specs.Holes.{hole}
 use Rattle.rules.specs.Sound.{unopened, holes}
 use Rattle.rules.specs.Calls.{Call, opening, allocate, free, extend, list, room}
 use Rattle.rules.specs.Refusals.{refusal8}
-use Rattle.rules.specs.Outcome.{after, Rows}
+use Rattle.rules.specs.Outcome.{after, rows}
 use Rattle.rules.specs.InWords.{SoundNumbers, Sound, Valid, RoomAt, Left, NoStart, NoSpan}
 use Rattle.rules.specs.Runs.{Reader, Ask, calls, reads, AllFit, Told, answers, says, Kept, Run, end, own, other, asked, Block, block, start, ends, Honest}
 use Rattle.rules.specs.Behaviour.{ours, Good}
 
 -- ---- a story: what is asked of a box of 96 bytes at 0x1001, and what it tells
-
-abbrev pub rows : List ℕ → List ℕ → Rows
-rows addrs sizes = record { addrs = addrs; sizes = sizes }
 
 -- a call that is lent n bytes and no rows
 abbrev pub lent : ℕ → Call → Ask

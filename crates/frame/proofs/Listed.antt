@@ -7,9 +7,8 @@ use lib.ListN.{length, take}
 use Rattle.rules.specs.Kinds.{number}
 use Rattle.rules.specs.Calls.{list}
 use Rattle.rules.specs.Answers.{answerNumbers}
-use Rattle.rules.specs.Outcome.{outcome, after, over, inRows, rowsAfter}
+use Rattle.rules.specs.Outcome.{outcome, after, rows, over, inRows, rowsAfter}
 use Rattle.rules.specs.declared.Heap.{Heap}
-use Rattle.reports.specs.Reports.{rows}
 use Rattle.frame.specs.Wire.{numbersLine, holeLines, spoken}
 use Rattle.printing.specs.Printed.{placed, rowLines}
 use Rattle.printing.proofs.Placed.{take-placed}

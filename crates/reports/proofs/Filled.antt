@@ -13,7 +13,7 @@ use Rattle.rules.specs.Tests.{all}
 use Rattle.rules.specs.Kinds.{number}
 use Rattle.rules.specs.Holes.{holesFrom}
 use Rattle.rules.specs.Sound.{most, holes}
-use Rattle.rules.specs.Outcome.{over, inRows}
+use Rattle.rules.specs.Outcome.{rows, over, inRows}
 use Rattle.rules.specs.declared.Addr.{Addr}
 use Rattle.rules.specs.declared.Place.{Place}
 use Rattle.rules.specs.declared.Hole.{Hole}
@@ -29,7 +29,6 @@ use Rattle.cursor.proofs.Step as Steps
 use Rattle.cursor.proofs.OneStep.{no-hole}
 use Rattle.cursor.proofs.Turn.{Turn, StartsBad, turn-at, turn-end, turn-bad, start}
 use Rattle.hole_list.specs.Settled.{Settled}
-use Rattle.reports.specs.Reports.{rows}
 
 -- ---- one row
 

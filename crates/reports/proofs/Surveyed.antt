@@ -9,6 +9,7 @@ use lib.ListN.{length}
 use borrow.Author.Tests.{eqb-true}
 use denote.Enum.Declared.{tagOf}
 use types.Run.{OneOf}
+use Rattle.rules.specs.Fixed.{minSize}
 use Rattle.rules.specs.Holes as Holes
 use Rattle.rules.specs.Sound.{size, most, listRules, soundHoles, holes}
 use Rattle.rules.specs.Calls as Calls
@@ -26,6 +27,7 @@ use Rattle.cursor.specs.Walk.{Lent, Enough, startOf, walkedOf}
 use Rattle.cursor.specs.declared.Walked.{Walked}
 use Rattle.cursor.specs.declared.Walked.the-variants as walked
 use Rattle.cursor.proofs.Walked as Walks
+use Rattle.cursor.proofs.Lends.{lends}
 use Rattle.cursor.proofs.Turn.{start}
 use Rattle.cursor.proofs.ToEnd.{walked-good}
 use Rattle.numbers.specs.Checks.{checkedOf}
@@ -46,7 +48,7 @@ bad-is walked.Bad o = refl
 
 -- what the walk asks, from the floor that was found
 pub walk-asks : (h : Heap) (m : List ℕ) → Lent h m → {floor : Addr} → floor ≡ startOf h
-    → Lent h m × (h .bottom .0 + 0 ≤ floor .0) × (floor .0 ≤ h .top .0 + 16)
+    → Lent h m × (h .bottom .0 + 0 ≤ floor .0) × (floor .0 ≤ h .top .0 + minSize)
 walk-asks h m l e = let t = start h m (l .fair) in rw e (l, omega (arith, t .bottom), t .low)
 
 -- and what it ensures, of a heap's own holes
@@ -115,7 +117,7 @@ module _ (h : Heap) (m : List ℕ) where
       let q : Of (length (holes h m)) (Holes.largest (holes h m)) ≡ Of n g = rw s at e in
       let a : n ≡ length (holes h m) = cc in
       let b : g ≡ Holes.largest (holes h m) = cc in
-      record { lent = record { fair = sound-fair h (p .1); lent = p .0 }; sound = s; count = a; largest = b })
+      record { lent = lends h m (sound-fair h (p .1), p .0); sound = s; count = a; largest = b })
       (λ s. let q : No NotSound ≡ Of n g = rw s at e in let z : _≡_ {A = ℕ} 0 1 = cc in absurd (omega arith))
 
   says-no : (c : Calls.Call) → Opens c ≡ false → {r : Refusal} (v : Checked) → checkedOf (length m) h ≡ v → surveyBy v h m ≡ No r

@@ -5,7 +5,6 @@ use Prim.Native.Nat.{ℕ}
 use lib.ListN.{length}
 use Rattle.rules.specs.Holes.{largest}
 use Rattle.rules.specs.Sound.{soundHoles, holes}
-use Rattle.rules.specs.Outcome.{Rows}
 use Rattle.rules.specs.declared.Heap.{Heap}
 use Rattle.rules.specs.declared.Refusal.the-variants.{NotSound}
 use Rattle.numbers.specs.Checks.{checkedOf}
@@ -13,9 +12,6 @@ use Rattle.numbers.specs.declared.Checked.{Checked}
 use Rattle.numbers.specs.declared.Checked.the-variants as checked
 use Rattle.reports.specs.declared.Survey.{Survey}
 use Rattle.reports.specs.declared.Survey.the-variants.{Of, No}
-
-abbrev pub rows : List ℕ → List ℕ → Rows
-rows addrs sizes = record { addrs = addrs; sizes = sizes }
 
 -- what is said of the holes, once the numbers are checked
 unfoldable pub surveyBy : Checked → Heap → List ℕ → Survey

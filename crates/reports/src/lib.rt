@@ -14,9 +14,8 @@ ghost use mathlib.Core.Path.{_≡_};
 ghost use Prim.Native.Nat.{min};
 ghost use Rattle.rules.specs.Sound.{holes};
 ghost use Rattle.rules.specs.Calls as Calls;
-ghost use Rattle.rules.specs.Outcome.{after, inRows, rowsAfter};
+ghost use Rattle.rules.specs.Outcome.{after, rows, inRows, rowsAfter};
 ghost use Rattle.hole_list.specs.Settled.{Settled};
-ghost use Rattle.reports.specs.Reports.{rows};
 
 // What 3, 4, 5 and a walk to the end say: the number of holes and the largest, or no.
 pub enum Survey {

@@ -1,5 +1,5 @@
 -- An address and a place in the arena: two kinds of number that no expression mixes, converted only through the base. No other
--- definition opens them. Definitions only.
+-- definition of what a call does opens them. Definitions only.
 use mathlib.Core.Bool.{Bool}
 use Prim.Native.Nat.{ℕ, _+_, _-_, _%_, _^_}
 use lib.Dec.{eqb, leb, ltb}

@@ -50,6 +50,9 @@ pub record Rows : Type 0 where
   pub addrs : List ℕ
   pub sizes : List ℕ
 
+abbrev pub rows : List ℕ → List ℕ → Rows
+rows addrs sizes = record { addrs = addrs; sizes = sizes }
+
 -- numbers over the first of a row; the rest of the row stays
 unfoldable pub over : List ℕ → List ℕ → List ℕ
 over [] row = row

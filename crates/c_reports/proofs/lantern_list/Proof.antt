@@ -1,8 +1,7 @@
 -- `c_reports::lantern_list` meets its contract: it is `reports::list` on the heap that the words say, and on the same rows. Assumes nothing.
 use borrow.Author.Needs.{needs}
 use Rattle.rules.specs.Calls.{list}
-use Rattle.rules.specs.Outcome.{rowsAfter}
-use Rattle.reports.specs.Reports.{rows}
+use Rattle.rules.specs.Outcome.{rows, rowsAfter}
 use Rattle.words.proofs.Loaded.{read-of}
 use Rattle.c_reports.proofs.Reported.{reported}
 use Rattle.c_reports.proofs.lantern_list.Statement.{statement}
