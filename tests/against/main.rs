@@ -1,7 +1,7 @@
 //! The original and Leanlantern on the same calls, with the same addresses: our arena is told the address of the original's memory.
 //!
 //!   against run SEED CALLS     random runs: all 16 residues of the base, heaps from 16 bytes to 65,536, scribbles between calls
-//!   against tilings UNITS      every tiling of heaps of up to UNITS times 8 bytes, with every small request, free and extension
+//!   against tilings UNITS      every tiling of heaps of up to UNITS times 8 bytes, with one more request, free or extension
 //!   against sample SEED LINES  calls as wire frames, each followed by the original's lines, marked by '='
 //!   against bench CALLS        both on the same traces, alternating; medians as ratios
 //!   against trace NAME WHO CALLS   one side alone on one trace, for counting instructions

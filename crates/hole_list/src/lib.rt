@@ -1,7 +1,7 @@
 // The hole list: what every call on it leans on, once the heap's numbers keep their rules. The few
 // heads that change are written here, and the sum of the sizes is tested.
-// Each call walks the list once: the pass that looks for the hole or the neighbours also tests the
-// heads, and goes on to the end.
+// A call that changes the heap walks the list once: the pass that looks for the hole or the neighbours
+// also tests the heads, and goes on to the end.
 mod heads;
 mod sums;
 
