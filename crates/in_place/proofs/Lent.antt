@@ -1,6 +1,6 @@
 -- A call on a heap that is lent, for any by-value call: the walk of its body, from the parameters to the locals' end.
 -- The heap's borrow is opened and the heap copied out. The by-value call gets the copy, and the arena's borrow for good, at its own lifetime, share and name. The heap that it hands back is stored behind the reference, and the borrow is closed there.
--- The parameters behind the arena are any plain types Rs.
+-- The parameters behind the arena are any plain types Rs. What the call is sent there need not be what the function got.
 -- Assumes `Given`, and of the by-value call that it meets its contract at this heap and this arena.
 use mathlib.Core.Path.{_≡_, refl, ap}
 use Prim.Native.Nat.{ℕ, _+_}
@@ -83,14 +83,14 @@ module _ {M : Type 1} (𝓤 : URA M) (H : Heap 𝓤) (A : Atoms 𝓤) (W : Given
   slice = sliceVal (arena .ptr) (length (arena .now))
 
   -- ---- what the by-value call asks: the arena's token, the copy, the arena's borrow and the other parameters
-  abbrev pub Asked : SProp 𝓤
-  Asked = sep 𝓤 (sep 𝓤 (sep 𝓤 (A .lft κ′ q′) (emp 𝓤)) (sem 𝓤 H A (owns (T.the-row ∷ MutSlice (named 0) κ′ u8 ∷ Rs) (heap .now, (arena, others)) (heapVal (heap .now) ∷ [], (slice ∷ [], vss))))) (emp 𝓤)
+  abbrev pub Asked : Denots Rs → Valss Rs → SProp 𝓤
+  Asked sent sent-vals = sep 𝓤 (sep 𝓤 (sep 𝓤 (A .lft κ′ q′) (emp 𝓤)) (sem 𝓤 H A (owns (T.the-row ∷ MutSlice (named 0) κ′ u8 ∷ Rs) (heap .now, (arena, sent)) (heapVal (heap .now) ∷ [], (slice ∷ [], sent-vals))))) (emp 𝓤)
 
-  asks : Is T.the-row (heap .now) (heapVal (heap .now) ∷ []) → ent 𝓤 (emp 𝓤) (sem 𝓤 H A (owns Rs others vss))
-      → ent 𝓤 (sep 𝓤 (sep 𝓤 (A .lft κ′ q′) (emp 𝓤)) (sem 𝓤 H A (MutSlice (named 1) κ′ u8 .own arena (slice ∷ [])))) Asked
-  asks is made =
+  asks : (sent : Denots Rs) (sent-vals : Valss Rs) → Is T.the-row (heap .now) (heapVal (heap .now) ∷ []) → ent 𝓤 (emp 𝓤) (sem 𝓤 H A (owns Rs sent sent-vals))
+      → ent 𝓤 (sep 𝓤 (sep 𝓤 (A .lft κ′ q′) (emp 𝓤)) (sem 𝓤 H A (MutSlice (named 1) κ′ u8 .own arena (slice ∷ [])))) (Asked sent sent-vals)
+  asks sent sent-vals is made =
       qed W ((‵ (flft κ′ q′) ⊛ ‵ ftrue) ∷ ‵ (MutSlice (named 1) κ′ u8 .own arena (slice ∷ [])) ∷ []) ∵
-      use0 W (‵ (owns Rs others vss)) made $ move ! (2 ∷ 0 ∷ []) $ fjoin ! $
+      use0 W (‵ (owns Rs sent sent-vals)) made $ move ! (2 ∷ 0 ∷ []) $ fjoin ! $
       owned ! T.the-row (Is T.the-row) (Struct.makes T.the-type T′.the-plain 𝓤 H A) (heap .now) _ is $ fjoin ! $ move ! (1 ∷ 0 ∷ []) $ join ! $ frame ! $ done !
 
   -- what it gives: the token, what it hands back, and the arena's last list m, which are those of out
@@ -128,13 +128,13 @@ module _ {M : Type 1} (𝓤 : URA M) (H : Heap 𝓤) (A : Atoms 𝓤) (W : Given
   behind τ l0 l1 l2 ln lc lp ls P Γ =
       raw P ∷ ‵ (froom τ l1 0) ∷ ‵ (froom (slices (named 1)) l2 0) ∷ ‵ (froom D′.mir ln 0) ∷ ‵ (froom T′.mir lc 0) ∷ ‵ (froom (bytes erased) lp 0) ∷ ‵ (froom (slices erased) ls 0) ∷ ‵ (froom N′.mir l0 0) ∷ Γ
 
-  module _ (out : After) where
+  module _ (sent : Denots Rs) (sent-vals : Valss Rs) (out : After) where
     module _ (C : Calls 𝓤 H) (Λ : Loops 𝓤 H) (fm : FmC 𝓤 H (W .laws) C) (f : Name) (xs : List Operand) (vs : List Val) (τ : Ty) (l0 l1 l2 : ℕ) (rest : Env 𝓤 H) (n ln lc lp ls : ℕ) (Γ : List (Item 𝓤)) (Kf : Val → SProp 𝓤) where
       abbrev E : Env 𝓤 H
       E = env τ l0 l1 l2 rest
 
-      steps : Placed E n ln lc lp ls → Room u8 (length (arena .now)) → ent 𝓤 (emp 𝓤) (sem 𝓤 H A (owns Rs others vss)) → Opds (Go {0}) W Γ E xs vs
-          → ent 𝓤 Asked (C f (heapVal (heap .now) ∷ slice ∷ vs) (λ w. mean 𝓤 H A (Gives out w)))
+      steps : Placed E n ln lc lp ls → Room u8 (length (arena .now)) → ent 𝓤 (emp 𝓤) (sem 𝓤 H A (owns Rs sent sent-vals)) → Opds (Go {0}) W Γ E xs vs
+          → ent 𝓤 (Asked sent sent-vals) (C f (heapVal (heap .now) ∷ slice ∷ vs) (λ w. mean 𝓤 H A (Gives out w)))
           → ((r : Done) (m : List ℕ) → Says out r m → length m ≡ length (arena .now) → ent 𝓤 (Ends r m) (Kf (answerVal r)))
           → ((r : Done) → Sq W (behind τ l0 l1 l2 ln lc lp ls (Kf (answerVal r)) Γ) (frees E (prop (Kf (answerVal r))))) → Sq W (before τ l0 l1 l2 ln lc lp ls Γ) (runs C Λ E (code f xs n) (atRet E Kf))
       steps placed room made os met ended freed =
@@ -150,7 +150,7 @@ module _ {M : Type 1} (𝓤 : URA M) (H : Heap 𝓤) (A : Atoms 𝓤) (W : Given
           assigns ! (addr ! (from ! (fld ! refl (hop ! (look-in ! 8 (sub ! 0 refl (whole !))) (stop !))))) (from-at ! (placed .2) (stop !)) (init ! 11 refl (tt, tt)) $
           assigns ! (agg ! (and-then ! (load ! (from-at ! (placed .2) (stop !)) (look ! 11 refl)) (and-then ! (load ! (from ! (fld ! refl (stop !))) (look-in ! 8 (sub ! 1 refl (whole !)))) (no-more !)))) (from-at ! (placed .3) (stop !)) (init ! 12 refl (tt, (tt, (record { fits = room .0 }, tt)))) $
           -- the call
-          move ! (6 ∷ []) $ fsplit ! $ move ! (7 ∷ 0 ∷ []) $ use2 W (raw (C f (heapVal (heap .now) ∷ slice ∷ vs) (λ w. mean 𝓤 H A (Gives out w)))) (via 𝓤 Asked (asks is made) met) $
+          move ! (6 ∷ []) $ fsplit ! $ move ! (7 ∷ 0 ∷ []) $ use2 W (raw (C f (heapVal (heap .now) ∷ slice ∷ vs) (λ w. mean 𝓤 H A (Gives out w)))) (via 𝓤 (Asked sent sent-vals) (asks sent sent-vals is made) met) $
           calls ! fm (Gives out) (and-then ! (load ! (from-at ! (placed .1) (stop !)) (look ! 10 refl)) (and-then ! (load ! (from-at ! (placed .3) (stop !)) (look ! 12 refl)) (past ! 14 os))) (λ w. await ! tt $ pick ! (λ r.
           split ! $ move ! (1 ∷ []) $ pick ! (λ ms. split ! $ move ! (1 ∷ []) $ heard ! (Says out r (ms .1 .0)) (λ e. fsplit ! $ drop ! $ fsplit ! $ fsplit ! $ move ! (1 ∷ []) $ feqL ! (λ as-long.
           move ! (2 ∷ []) $ split ! $ move ! (1 ∷ []) $ peeks ! D.the-row (Is D.the-row) (shows 𝓤 H A D.the-row) r (w ∷ []) (λ isr.
@@ -170,8 +170,8 @@ module _ {M : Type 1} (𝓤 : URA M) (H : Heap 𝓤) (A : Atoms 𝓤) (W : Given
 
     -- the walk, as a rule of the calculus: all but n is read off the goal. `met` is the by-value call's contract at this heap and this arena; `ended` takes what there is at the end to what the function owes; `freed` frees the locals
     pub walk : {K : Type 0} → K → {C : Calls 𝓤 H} {Λ : Loops 𝓤 H} → FmC 𝓤 H (W .laws) C → {f : Name} {xs : List Operand} {vs : List Val} {τ : Ty} {l0 l1 l2 : ℕ} {rest : Env 𝓤 H} (n : ℕ) {ln lc lp ls : ℕ} {Γ : List (Item 𝓤)} {Kf : Val → SProp 𝓤}
-        → Placed (env τ l0 l1 l2 rest) n ln lc lp ls → Room u8 (length (arena .now)) → ent 𝓤 (emp 𝓤) (sem 𝓤 H A (owns Rs others vss)) → Opds K W Γ (env τ l0 l1 l2 rest) xs vs
-        → ent 𝓤 Asked (C f (heapVal (heap .now) ∷ slice ∷ vs) (λ w. mean 𝓤 H A (Gives out w)))
+        → Placed (env τ l0 l1 l2 rest) n ln lc lp ls → Room u8 (length (arena .now)) → ent 𝓤 (emp 𝓤) (sem 𝓤 H A (owns Rs sent sent-vals)) → Opds K W Γ (env τ l0 l1 l2 rest) xs vs
+        → ent 𝓤 (Asked sent sent-vals) (C f (heapVal (heap .now) ∷ slice ∷ vs) (λ w. mean 𝓤 H A (Gives out w)))
         → ((r : Done) (m : List ℕ) → Says out r m → length m ≡ length (arena .now) → ent 𝓤 (Ends r m) (Kf (answerVal r)))
         → ((r : Done) → Seq K W (behind τ l0 l1 l2 ln lc lp ls (Kf (answerVal r)) Γ) (frees (env τ l0 l1 l2 rest) (prop (Kf (answerVal r)))))
         → Seq K W (before τ l0 l1 l2 ln lc lp ls Γ) (runs C Λ (env τ l0 l1 l2 rest) (code f xs n) (atRet (env τ l0 l1 l2 rest) Kf))
