@@ -1,8 +1,8 @@
 //! A safe Rust face of Leanlantern: a box that owns its seven words and borrows its arena. Link it with the static library that
-//! `tests/library.sh` writes (`-L target/staticlib -l static=leanlantern`).
+//! `tests/library.sh` writes (`-L target/staticlib -l static=leanlantern`). For Rust 1.82 or later.
 
 mod c {
-    extern "C" {
+    unsafe extern "C" {
         pub fn lantern_open(heap: *mut u64, arena: *mut u8, len: usize, base: u64, named: u64, answer: *mut u64) -> u64;
         pub fn lantern_allocate(heap: *mut u64, arena: *mut u8, len: usize, size: u64, align: u64, answer: *mut u64) -> u64;
         pub fn lantern_free(heap: *mut u64, arena: *mut u8, len: usize, addr: u64, size: u64, align: u64, answer: *mut u64) -> u64;

@@ -61,6 +61,12 @@ int main(void)
     for (uint64_t i = 0; no == 0 && i < answer[0] && i < ROWS; i++)
         line(0x20, addrs[i], sizes[i]);
 
+    no = lantern_room(heap, arena, ARENA, answer);
+    if (no != 0 || answer[0] != 0x20 || answer[1] != 2 || lantern_bottom(heap) != 0x1000 || lantern_top(heap) != 0x1047
+        || lantern_size(heap) != 0x40 || lantern_used(heap) != 0x10 || lantern_free_bytes(heap) != 0x30) {
+        fprintf(stderr, "c_example: the room report or a reader differs\n");
+        return 1;
+    }
     if (printed != LINES || differing != 0) {
         fprintf(stderr, "c_example: %u lines of %d, %u of them differ\n", printed, LINES, differing);
         return 1;

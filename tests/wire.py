@@ -10,6 +10,7 @@ import random
 import re
 import resource
 import select
+import shlex
 import signal
 import socket
 import subprocess
@@ -253,7 +254,7 @@ def closed_by_answer():
 
 
 def head():
-    out = subprocess.run(f"yes 05 | '{WIRE}' | head -1", shell=True, stdout=PIPE).stdout
+    out = subprocess.run(f"yes 05 | {shlex.quote(WIRE)} | head -1", shell=True, stdout=PIPE).stdout
     check(out, UNOPENED)
 
 
@@ -264,7 +265,7 @@ def full_output():
 
 
 def full_now_and_then():
-    """An output that takes no more at times: what came before is not lost, and nothing is left out."""
+    """An output that takes no more at times: what came is a beginning of the answers, without a gap, and the program ends there."""
     calls, answers, rows = most_holes()
     with contextlib.ExitStack() as open_files:
         r, w = (open_files.enter_context(open(end, mode, 0)) for end, mode in zip(os.pipe(), ("rb", "wb")))
@@ -289,13 +290,18 @@ def no_input():
     folder = os.open("/", os.O_RDONLY)
     with started(stdin=folder, stdout=PIPE) as p:
         check(heard(p.stdout, 1), b"")
+        assert p.wait() == 0, f"exit status {p.returncode}"
     os.close(folder)
-    check(subprocess.run(f"'{WIRE}' <&-", shell=True, stdout=PIPE).stdout, b"")
+    check(run(b"", preexec_fn=lambda: os.close(0)), b"")
 
 
 def failed_read():
     """A read that fails after a line and a half: the line's answer stands, and the half is none."""
-    with socket.create_server(("127.0.0.1", 0)) as server:
+    try:
+        server = socket.create_server(("127.0.0.1", 0))
+    except OSError as e:
+        return f"not tried, since this machine has no loopback: {e}"
+    with server:
         ours = socket.create_connection(server.getsockname())
         its, _ = server.accept()
     with started(stdin=its, stdout=PIPE) as p:

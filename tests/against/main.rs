@@ -77,6 +77,13 @@ struct Held {
     stamp: u8,
 }
 
+impl Held {
+    /// The bytes that the block takes: its size, at least 16, rounded up to 8.
+    fn span(&self) -> usize {
+        (self.size.max(16) as usize).next_multiple_of(8)
+    }
+}
+
 #[derive(Default)]
 struct Counts {
     calls: u64,
@@ -167,14 +174,14 @@ impl<'a> Pair<'a> {
     fn compare_held(&mut self, counts: &mut Counts) {
         for b in &self.held {
             let at = (b.addr - self.base) as usize;
-            let theirs = self.memory.bytes(self.residue + at, b.size as usize);
+            let theirs = self.memory.bytes(self.residue + at, b.span());
             if theirs.iter().any(|x| *x != b.stamp) {
                 differ("the original changed a held block", b.addr, b.size)
             }
-            if self.ours.arena[at..at + b.size as usize].iter().any(|x| *x != b.stamp) {
+            if self.ours.arena[at..at + b.span()].iter().any(|x| *x != b.stamp) {
                 differ("a held block changed", b.addr, b.size)
             }
-            counts.bytes += b.size;
+            counts.bytes += b.span() as u64;
         }
     }
 
@@ -182,10 +189,10 @@ impl<'a> Pair<'a> {
     fn scribble(&mut self, rng: &mut Rng) {
         let mut spared = vec![false; self.len];
         let heads = self.original_holes().into_iter().map(|(addr, _)| (addr, 16));
-        let blocks = self.held.iter().map(|b| (b.addr, b.size));
+        let blocks = self.held.iter().map(|b| (b.addr, b.span()));
         for (addr, size) in heads.chain(blocks) {
             let at = (addr - self.base) as usize;
-            spared[at..at + size as usize].fill(true);
+            spared[at..at + size].fill(true);
         }
         let theirs = self.memory.bytes(self.residue, self.len);
         for i in (0..self.len).filter(|i| !spared[*i]) {
@@ -196,8 +203,8 @@ impl<'a> Pair<'a> {
 
     fn stamp(&mut self, b: Held) {
         let at = (b.addr - self.base) as usize;
-        self.memory.bytes(self.residue + at, b.size as usize).fill(b.stamp);
-        self.ours.arena[at..at + b.size as usize].fill(b.stamp);
+        self.memory.bytes(self.residue + at, b.span()).fill(b.stamp);
+        self.ours.arena[at..at + b.span()].fill(b.stamp);
     }
 
     fn allocate(&mut self, size: u64, align: u64, stamp: u8, counts: &mut Counts) {
@@ -242,7 +249,7 @@ impl<'a> Pair<'a> {
         let b = self.held.swap_remove(i);
         let layout = Layout::from_size_align(b.size as usize, b.align as usize).unwrap();
         unsafe { self.heap.deallocate(NonNull::new(b.addr as *mut u8).unwrap(), layout) };
-        let rounded = (b.size.max(16) + 7) / 8 * 8;
+        let rounded = b.span() as u64;
         same("free", Ok((rounded, self.heap.used() as u64)), self.ours.free(b.addr, b.size, b.align));
     }
 
@@ -284,11 +291,29 @@ fn random_size(rng: &mut Rng, len: u64) -> u64 {
     }
 }
 
+/// The largest heap with as many holes as there can be: 4,096 blocks of 16 bytes, every other one given back.
+fn most_holes(memory: &mut Memory, space: &mut [u8], counts: &mut Counts) {
+    let mut pair = Pair::open(memory, space, 0, ARENA).unwrap();
+    for i in 0..ARENA / 16 {
+        pair.allocate(16, 8, i as u8, counts);
+    }
+    for k in 0..ARENA as u64 / 32 {
+        let i = pair.held.iter().position(|b| b.addr == pair.base + 32 * k).unwrap();
+        pair.free(i, counts);
+    }
+    pair.compare(counts);
+    pair.compare_held(counts);
+    same("the most holes", ARENA as u64 / 32, counts.most);
+    counts.runs += 1;
+}
+
 fn run(seed: u64, calls: u64) -> Counts {
-    let mut rng = Rng(seed | 1);
+    // a generator of this kind must not start from 0
+    let mut rng = Rng(if seed == 0 { 0x9e37_79b9_7f4a_7c15 } else { seed });
     let mut counts = Counts::default();
     let mut memory = Memory::new();
     let mut space = vec![0u8; ARENA];
+    most_holes(&mut memory, &mut space, &mut counts);
     while counts.calls < calls {
         counts.runs += 1;
         let residue = (counts.runs % 16) as usize;
@@ -296,6 +321,7 @@ fn run(seed: u64, calls: u64) -> Counts {
             0 => rng.below(64) as usize,
             1 => rng.below(400) as usize,
             2 => rng.below(5_000) as usize,
+            _ if rng.one_in(4) => ARENA,
             _ => rng.below(ARENA as u64 + 1) as usize,
         };
         let named = if rng.one_in(2) { len } else { rng.below(len as u64 + 1) as usize };
@@ -615,7 +641,10 @@ fn bench(calls: usize) {
     let mut memory = Memory::new();
     let mut space = vec![0u8; ARENA];
     println!("trace  holes  looked at per grant  original ns/call  ours ns/call  ratio (medians of 9, alternating)");
-    for (name, holes) in [("mixed", 500), ("deep", 500), ("mixed", 50), ("mixed", 1000), ("full", 50), ("full", 500), ("full", 2048)] {
+    for (name, holes, aim) in [
+        ("mixed", 500, Some(8.0)), ("deep", 500, Some(2.5)), ("mixed", 50, None), ("mixed", 1000, None), ("full", 50, None), ("full", 500, None),
+        ("full", 2048, None),
+    ] {
         let (first, turns) = trace(name, calls, holes);
         let (mut a, mut b, mut r) = (Vec::new(), Vec::new(), Vec::new());
         let (mut left, mut looked) = (0, String::new());
@@ -629,7 +658,13 @@ fn bench(calls: usize) {
             b.push(y.0 as f64 / calls as f64);
             r.push(y.0 as f64 / x.0 as f64);
         }
-        println!("{name:6} {left:5}  {looked:>19}  {:16.1}  {:12.1}  {:5.2}", median(a), median(b), median(r));
+        let ratio = median(r);
+        let said = match aim {
+            Some(most) if ratio <= most => format!("  at most {most} is aimed at"),
+            Some(most) => format!("  MISSED: at most {most} is aimed at"),
+            None => String::new(),
+        };
+        println!("{name:6} {left:5}  {looked:>19}  {:16.1}  {:12.1}  {ratio:5.2}{said}", median(a), median(b));
     }
 }
 

@@ -90,23 +90,28 @@ fn stored(t: Tally, line: &[u8], reply: &[u8; LONGEST]) -> Tally
     }
 }
 
-// A call. Lines of the answer before it that the original did not give differ.
+// What differs, lines of the last answer that the original did not give included.
+fn differing(t: Tally) -> u64 {
+    if t.at != t.len {
+        more(t.differ)
+    } else {
+        t.differ
+    }
+}
+
+// A call.
 fn called(t: Tally, arena: &mut [u8; ARENA], line: &[u8], reply: &mut [u8; LONGEST]) -> Tally
     ensures { λ r. ⌜ (r .at ≤ r .len) × (r .len ≤ longest) ⌝ }
 {
     let h = t.heap;
     let replied = answer_line(h, arena, line, reply);
     let heap = replied.heap;
-    let mut differ = t.differ;
-    if t.at != t.len {
-        differ = more(differ);
-    }
     Tally {
         heap,
         at: 0,
         len: replied.len,
         agree: t.agree,
-        differ,
+        differ: differing(t),
     }
 }
 
@@ -157,6 +162,6 @@ fn main() {
     );
     io::print_decimal(OUTPUT, t.agree);
     io::write_all(OUTPUT, b" agree, ");
-    io::print_decimal(OUTPUT, t.differ);
+    io::print_decimal(OUTPUT, differing(t));
     io::write_all(OUTPUT, b" differ\n");
 }
