@@ -1,7 +1,5 @@
 -- The laws that the proofs of this crate and of those above it share, by subject.
 
--- what a walk asks of the numbers and the arena
-pub mod Lends
 -- one step, one turn of a walk, and what a walk has passed
 pub mod OneStep
 pub mod Turn

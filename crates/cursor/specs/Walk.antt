@@ -1,10 +1,8 @@
 -- What a walk over the heads finds: a step by the bytes at a place, the walks by the list of holes. Definitions only.
-use mathlib.Core.Path.{_≡_}
 use mathlib.Core.Bool.{cond}
 use mathlib.Core.List.{List, [], _∷_}
 use Prim.Native.Nat.{ℕ, _+_, _*_, _≤_, _<_, max}
 use lib.Dec.{eqb}
-use lib.ListN.{length}
 use Rattle.rules.specs.Fixed.{minSize, addrLimit}
 use Rattle.rules.specs.Tests.{all}
 use Rattle.rules.specs.Round.{Power}
@@ -14,7 +12,7 @@ use Rattle.rules.specs.declared.Addr.{Addr}
 use Rattle.rules.specs.declared.Place.{Place}
 use Rattle.rules.specs.declared.Hole.{Hole}
 use Rattle.rules.specs.declared.Heap.{Heap}
-use Rattle.rules.specs.Inner.{Fair, headRules, behind, ends}
+use Rattle.rules.specs.Inner.{headRules, behind, ends}
 use Rattle.cursor.specs.declared.Cursor.{Cursor}
 use Rattle.cursor.specs.declared.Step.{Step}
 use Rattle.cursor.specs.declared.Step.the-variants as step
@@ -22,11 +20,6 @@ use Rattle.cursor.specs.declared.Walked.{Walked}
 use Rattle.cursor.specs.declared.Walked.the-variants as walked
 
 -- ---- what a walk leans on
-
--- numbers that keep their rules, and an arena of the length that they say
-pub record Lent (h : Heap) (m : List ℕ) : Type 0 where
-  pub fair : Fair h
-  pub lent : length m ≡ h .len
 
 -- a request that refusal 6 does not meet
 pub record Asked (want align : ℕ) : Type 0 where

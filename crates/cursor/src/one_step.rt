@@ -9,8 +9,8 @@ use rules::MIN_SIZE;
 use rules::NONE;
 use rules::Place;
 ghost use mathlib.Core.Path.{_≡_};
-ghost use Rattle.cursor.specs.Walk.{Lent, startOf, lastOf, stepOf};
-ghost use Rattle.rules.specs.Inner.{Fair};
+ghost use Rattle.cursor.specs.Walk.{startOf, lastOf, stepOf};
+ghost use Rattle.rules.specs.Inner.{Fair, Lent};
 
 // The floor of the first head: bottom if it lies there, else 16 bytes on, so that 0 or at least 16
 // bytes are left before it.

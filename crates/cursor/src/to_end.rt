@@ -10,7 +10,8 @@ ghost use mathlib.Core.Path.{_≡_};
 ghost use Prim.Native.Nat.{ℕ, _+_, _≤_, max};
 ghost use Rattle.rules.specs.Fixed.{minSize};
 ghost use Rattle.rules.specs.Holes.{holesFrom};
-ghost use Rattle.cursor.specs.Walk.{Lent, Enough, walkedOf, stoppedWalk};
+ghost use Rattle.rules.specs.Inner.{Lent};
+ghost use Rattle.cursor.specs.Walk.{Enough, walkedOf, stoppedWalk};
 
 // The larger of two sizes.
 fn larger(a: u64, b: u64) -> u64

@@ -17,7 +17,8 @@ ghost use Rattle.rules.specs.Round.{Power};
 ghost use Rattle.rules.specs.Allocate as Allocate;
 ghost use Rattle.rules.specs.Kinds.{none};
 ghost use Rattle.rules.specs.Sound.{holes};
-ghost use Rattle.cursor.specs.Walk.{Lent, Asked, startOf};
+ghost use Rattle.rules.specs.Inner.{Lent};
+ghost use Rattle.cursor.specs.Walk.{Asked, startOf};
 ghost use Rattle.fitting.specs.FirstFit.{stoppedSearch, searchOf};
 
 // The hole that an allocation uses: where it lies, the hole itself, the place of the next one, how

@@ -9,8 +9,7 @@ use Rattle.rules.specs.Holes.{headAt, putHead}
 use Rattle.rules.specs.Sound.{size, soundHoles, holes}
 use Rattle.rules.specs.declared.Place.{Place}
 use Rattle.rules.specs.declared.Heap.{Heap}
-use Rattle.rules.specs.Inner.{Bytes}
-use Rattle.cursor.specs.Walk.{Lent}
+use Rattle.rules.specs.Inner.{Bytes, Lent}
 use Rattle.cursor.specs.declared.Walked.{Walked}
 use Rattle.cursor.specs.declared.Walked.the-variants as walked
 

@@ -11,8 +11,7 @@ ghost use mathlib.Core.Bool.{cond};
 ghost use Prim.Native.Nat.{_+_};
 ghost use lib.Dec.{eqb};
 ghost use Rattle.rules.specs.Sound.{size, soundHoles, holes};
-ghost use Rattle.rules.specs.Inner.{Fair};
-ghost use Rattle.cursor.specs.Walk.{Lent};
+ghost use Rattle.rules.specs.Inner.{Fair, Lent};
 ghost use Rattle.hole_list.specs.Settled.{addsUp};
 
 // A refused call: the heap comes back as it went in.

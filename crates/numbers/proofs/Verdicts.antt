@@ -17,7 +17,7 @@ use Rattle.rules.specs.declared.Refusal.{Refusal}
 use Rattle.rules.specs.declared.Refusal.the-variants.{Unopened, OtherLength, NotSound}
 use Rattle.rules.specs.declared.Answer.the-variants.{Refused}
 use Rattle.rules.proofs.Cases.{cases, by-eq}
-use Rattle.rules.specs.Inner as Inner
+use Rattle.rules.specs.Inner.{Lent}
 use Rattle.rules.proofs.Walk.{sound-fair}
 use Rattle.rules.proofs.Decide.{Opens}
 use Rattle.rules.proofs.Calls.{outcome-3, outcome-4, outcome-5, is-refused}
@@ -79,8 +79,10 @@ fair-is (No r) o = absurd (omega arith)
 
 module _ {v : Checked} {len : ℕ} (h : Heap) (m : List ℕ) (lent : len ≡ length m) (said : v ≡ checkedOf len h) where
   -- the numbers keep their rules, and the arena has the length that they say
-  pub tested-fair : OneOf (0 ∷ []) (tagOf Verdict.the-type v) → Inner.Fair h × (length m ≡ h .len)
-  tested-fair o = let p = passes len h (sym said ∙ fair-is v o) in (sound-fair h (p .1), sym lent ∙ p .0)
+  pub tested-lent : OneOf (0 ∷ []) (tagOf Verdict.the-type v) → Lent h m
+  tested-lent o =
+      let p = passes len h (sym said ∙ fair-is v o) in
+      record { fair = sound-fair h (p .1); lent = sym lent ∙ p .0 }
 
   -- the call hands the refusal back
   pub tested-no : (c : Call) → Opens c ≡ false → {r : Refusal} {d : Done} → v ≡ No r → (d .answer ≡ Refused r) × (d .heap ≡ h)

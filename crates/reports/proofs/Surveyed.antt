@@ -23,11 +23,11 @@ use Rattle.rules.proofs.Cases.{cases, all-each}
 use Rattle.rules.proofs.Walk.{sound-fair, fair-sound, sound-walk}
 use Rattle.rules.proofs.Decide.{Opens}
 use Rattle.rules.proofs.Calls.{outcome-fair, sifted-sound, sifted-broken, list-on, room-on}
-use Rattle.cursor.specs.Walk.{Lent, Enough, startOf, walkedOf}
+use Rattle.rules.specs.Inner.{Lent}
+use Rattle.cursor.specs.Walk.{Enough, startOf, walkedOf}
 use Rattle.cursor.specs.declared.Walked.{Walked}
 use Rattle.cursor.specs.declared.Walked.the-variants as walked
 use Rattle.cursor.proofs.Walked as Walks
-use Rattle.cursor.proofs.Lends.{lends}
 use Rattle.cursor.proofs.Turn.{start}
 use Rattle.cursor.proofs.ToEnd.{walked-good}
 use Rattle.numbers.specs.Checks.{checkedOf}
@@ -117,7 +117,7 @@ module _ (h : Heap) (m : List ℕ) where
       let q : Of (length (holes h m)) (Holes.largest (holes h m)) ≡ Of n g = rw s at e in
       let a : n ≡ length (holes h m) = cc in
       let b : g ≡ Holes.largest (holes h m) = cc in
-      record { lent = lends h m (sound-fair h (p .1), p .0); sound = s; count = a; largest = b })
+      record { lent = record { fair = sound-fair h (p .1); lent = p .0 }; sound = s; count = a; largest = b })
       (λ s. let q : No NotSound ≡ Of n g = rw s at e in let z : _≡_ {A = ℕ} 0 1 = cc in absurd (omega arith))
 
   says-no : (c : Calls.Call) → Opens c ≡ false → {r : Refusal} (v : Checked) → checkedOf (length m) h ≡ v → surveyBy v h m ≡ No r

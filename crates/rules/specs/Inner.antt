@@ -5,7 +5,7 @@ use mathlib.Core.Bool.{Bool, cond}
 use mathlib.Core.List.{List, [], _∷_}
 use Prim.Native.Nat.{ℕ, _+_, _%_, _≤_, _<_}
 use lib.Dec.{leb, eqb}
-use lib.ListN.{getD}
+use lib.ListN.{length, getD}
 use Rattle.rules.specs.declared.Addr.{Addr}
 use Rattle.rules.specs.declared.Place.{Place}
 use Rattle.rules.specs.declared.Hole.{Hole}
@@ -50,6 +50,11 @@ pub record Fair (h : Heap) : Type 0 where
   pub room : h .bottom .0 + minSize ≤ h .top .0
   pub pending : h .pending ≤ 15
   pub fits : h .top .0 + h .pending ≤ h .base .0 + h .len
+
+-- numbers that keep their rules, and an arena of the length that they say
+pub record Lent (h : Heap) (m : List ℕ) : Type 0 where
+  pub fair : Fair h
+  pub lent : length m ≡ h .len
 
 -- what a head must show behind a floor
 abbrev pub headRules : Heap → Addr → Hole → List Bool

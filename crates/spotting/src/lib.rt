@@ -11,7 +11,8 @@ use rules::Place;
 ghost use mathlib.Core.Path.{_≡_};
 ghost use Rattle.rules.specs.Kinds.{none};
 ghost use Rattle.rules.specs.Sound.{holes};
-ghost use Rattle.cursor.specs.Walk.{Lent, startOf};
+ghost use Rattle.rules.specs.Inner.{Lent};
+ghost use Rattle.cursor.specs.Walk.{startOf};
 ghost use Rattle.spotting.specs.Nearest.{stoppedNear, nearOf};
 
 // Where a span lies among the holes: behind `prev` and before `hole`, where these are; the floor

@@ -5,8 +5,7 @@ use Rattle.rules.specs.Calls.{allocate}
 use Rattle.rules.specs.declared.Refusal.the-variants.{BadLayout}
 use Rattle.rules.proofs.Walk.{fair-sound}
 use Rattle.rules.proofs.Calls.{is-left, allocate-6, allocate-on}
-use Rattle.numbers.proofs.Verdicts.{tested-fair, tested-no}
-use Rattle.cursor.proofs.Lends.{lends}
+use Rattle.numbers.proofs.Verdicts.{tested-lent, tested-no}
 use Rattle.hole_list.proofs.Requests.{tested-bad, tested-asked}
 use Rattle.hole_list.proofs.Sifted.{later-is}
 use Rattle.allocating.proofs.allocate.Statement.{statement}
@@ -52,8 +51,7 @@ refuse-sound-requires c κs =
     let k = c .before .before .before .before .before in
     let a = k .before in
     let s = a .before .before .before .before in
-    let l = tested-fair (s .args .h) (s .args .arena .now) (a .before .arena-len .ensures .0) (a .check .ensures) (k .match .keys2) in
-    lends (s .args .h) (s .args .arena .now) l
+    tested-lent (s .args .h) (s .args .arena .now) (a .before .arena-len .ensures .0) (a .check .ensures) (k .match .keys2)
 
 same-length-2 : tie.Need-same-length-2
 same-length-2 c = search needs
@@ -64,9 +62,9 @@ returns-2 c =
     let k = y .before .before .before in
     let a = k .before in
     let s = a .before .before .before .before in
-    let l = tested-fair (s .args .h) (s .args .arena .now) (a .before .arena-len .ensures .0) (a .check .ensures) (k .match .keys2) in
+    let l = tested-lent (s .args .h) (s .args .arena .now) (a .before .arena-len .ensures .0) (a .check .ensures) (k .match .keys2) in
     let e = tested-bad (s .args .size) (s .args .align) (y .before .align-layout .ensures) (y .match2 .keys2) in
-    let no = allocate-6 (s .args .h) (s .args .arena .now) (l .1) (fair-sound (s .args .h) (l .0)) (s .args .size) (s .args .align) e in
+    let no = allocate-6 (s .args .h) (s .args .arena .now) (l .lent) (fair-sound (s .args .h) (l .fair)) (s .args .size) (s .args .align) e in
     later-is (allocate (s .args .size) (s .args .align)) (s .args .h) (s .args .arena .now) BadLayout no (c .refuse-sound .ensures)
 
 allocate-first-fit-requires : tie.Need-allocate-first-fit-requires
@@ -75,9 +73,9 @@ allocate-first-fit-requires c κs =
     let k = y .before .before .before .before in
     let a = k .before in
     let s = a .before .before .before .before in
-    let l = tested-fair (s .args .h) (s .args .arena .now) (a .before .arena-len .ensures .0) (a .check .ensures) (k .match .keys2) in
+    let l = tested-lent (s .args .h) (s .args .arena .now) (a .before .arena-len .ensures .0) (a .check .ensures) (k .match .keys2) in
     let q = tested-asked (s .args .size) (s .args .align) (y .before .before .align-layout .ensures) (search needs) (y .layout .given .1) in
-    (record { lent = lends (s .args .h) (s .args .arena .now) l; bytes = a .before .arena-len .ensures .1 }, q .0)
+    (record { lent = l; bytes = a .before .arena-len .ensures .1 }, q .0)
 
 same-length-3 : tie.Need-same-length-3
 same-length-3 c = search needs
@@ -88,9 +86,9 @@ returns-3 c =
     let k = y .before .before .before .before in
     let a = k .before in
     let s = a .before .before .before .before in
-    let l = tested-fair (s .args .h) (s .args .arena .now) (a .before .arena-len .ensures .0) (a .check .ensures) (k .match .keys2) in
+    let l = tested-lent (s .args .h) (s .args .arena .now) (a .before .arena-len .ensures .0) (a .check .ensures) (k .match .keys2) in
     let e = sym (y .before .before .align-layout .ensures) ∙ y .layout .given .1 in
-    let on = allocate-on (s .args .h) (s .args .arena .now) (l .1) (fair-sound (s .args .h) (l .0)) (s .args .size) (s .args .align) e in
+    let on = allocate-on (s .args .h) (s .args .arena .now) (l .lent) (fair-sound (s .args .h) (l .fair)) (s .args .size) (s .args .align) e in
     is-left (allocate (s .args .size) (s .args .align)) (s .args .h) (s .args .arena .now) _ on (c .before .before .allocate-first-fit .ensures)
 
 pub allocate-spec : {M : Type 1} → statement M

@@ -4,8 +4,7 @@ use borrow.Author.Needs.{needs}
 use Rattle.rules.specs.Calls.{extend}
 use Rattle.rules.proofs.Walk.{fair-sound}
 use Rattle.rules.proofs.Calls.{is-left, extend-on}
-use Rattle.numbers.proofs.Verdicts.{tested-fair, tested-no}
-use Rattle.cursor.proofs.Lends.{lends}
+use Rattle.numbers.proofs.Verdicts.{tested-lent, tested-no}
 use Rattle.extending.proofs.extend.Statement.{statement}
 use Rattle.extending.proofs.extend.Tie as tie
 
@@ -40,8 +39,8 @@ extend-requires c κs =
     let k = c .before .before in
     let a = k .before in
     let s = a .before .before .before .before in
-    let l = tested-fair (s .args .h) (s .args .arena .now) (a .before .arena-len .ensures .0) (a .check .ensures) (k .match .keys2) in
-    record { lent = lends (s .args .h) (s .args .arena .now) l; bytes = a .before .arena-len .ensures .1 }
+    let l = tested-lent (s .args .h) (s .args .arena .now) (a .before .arena-len .ensures .0) (a .check .ensures) (k .match .keys2) in
+    record { lent = l; bytes = a .before .arena-len .ensures .1 }
 
 same-length-2 : tie.Need-same-length-2
 same-length-2 c = search needs
@@ -51,8 +50,8 @@ returns-2 c =
     let k = c .before .before .before .before .before in
     let a = k .before in
     let s = a .before .before .before .before in
-    let l = tested-fair (s .args .h) (s .args .arena .now) (a .before .arena-len .ensures .0) (a .check .ensures) (k .match .keys2) in
-    let on = extend-on (s .args .h) (s .args .arena .now) (l .1) (fair-sound (s .args .h) (l .0)) (s .args .by) in
+    let l = tested-lent (s .args .h) (s .args .arena .now) (a .before .arena-len .ensures .0) (a .check .ensures) (k .match .keys2) in
+    let on = extend-on (s .args .h) (s .args .arena .now) (l .lent) (fair-sound (s .args .h) (l .fair)) (s .args .by) in
     is-left (extend (s .args .by)) (s .args .h) (s .args .arena .now) _ on (c .before .before .extend .ensures)
 
 pub extend-spec : {M : Type 1} → statement M

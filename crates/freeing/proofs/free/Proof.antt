@@ -5,8 +5,7 @@ use Rattle.rules.specs.Calls.{free}
 use Rattle.rules.specs.declared.Refusal.the-variants.{BadLayout}
 use Rattle.rules.proofs.Walk.{fair-sound}
 use Rattle.rules.proofs.Calls.{is-left, free-6, free-on}
-use Rattle.numbers.proofs.Verdicts.{tested-fair, tested-no}
-use Rattle.cursor.proofs.Lends.{lends}
+use Rattle.numbers.proofs.Verdicts.{tested-lent, tested-no}
 use Rattle.hole_list.proofs.Requests.{tested-bad, tested-asked}
 use Rattle.hole_list.proofs.Sifted.{later-is}
 use Rattle.freeing.proofs.free.Statement.{statement}
@@ -52,8 +51,7 @@ refuse-sound-requires c κs =
     let k = c .before .before .before .before .before in
     let a = k .before in
     let s = a .before .before .before .before in
-    let l = tested-fair (s .args .h) (s .args .arena .now) (a .before .arena-len .ensures .0) (a .check .ensures) (k .match .keys2) in
-    lends (s .args .h) (s .args .arena .now) l
+    tested-lent (s .args .h) (s .args .arena .now) (a .before .arena-len .ensures .0) (a .check .ensures) (k .match .keys2)
 
 same-length-2 : tie.Need-same-length-2
 same-length-2 c = search needs
@@ -64,9 +62,9 @@ returns-2 c =
     let k = y .before .before .before in
     let a = k .before in
     let s = a .before .before .before .before in
-    let l = tested-fair (s .args .h) (s .args .arena .now) (a .before .arena-len .ensures .0) (a .check .ensures) (k .match .keys2) in
+    let l = tested-lent (s .args .h) (s .args .arena .now) (a .before .arena-len .ensures .0) (a .check .ensures) (k .match .keys2) in
     let e = tested-bad (s .args .size) (s .args .align) (y .before .align-layout .ensures) (y .match2 .keys2) in
-    let no = free-6 (s .args .h) (s .args .arena .now) (l .1) (fair-sound (s .args .h) (l .0)) (s .args .addr) (s .args .size) (s .args .align) e in
+    let no = free-6 (s .args .h) (s .args .arena .now) (l .lent) (fair-sound (s .args .h) (l .fair)) (s .args .addr) (s .args .size) (s .args .align) e in
     later-is (free (s .args .addr) (s .args .size) (s .args .align)) (s .args .h) (s .args .arena .now) BadLayout no (c .refuse-sound .ensures)
 
 deallocate-requires : tie.Need-deallocate-requires
@@ -75,9 +73,9 @@ deallocate-requires c κs =
     let k = y .before .before .before .before in
     let a = k .before in
     let s = a .before .before .before .before in
-    let l = tested-fair (s .args .h) (s .args .arena .now) (a .before .arena-len .ensures .0) (a .check .ensures) (k .match .keys2) in
+    let l = tested-lent (s .args .h) (s .args .arena .now) (a .before .arena-len .ensures .0) (a .check .ensures) (k .match .keys2) in
     let q = tested-asked (s .args .size) (s .args .align) (y .before .before .align-layout .ensures) (search needs) (y .layout .given .1) in
-    (record { lent = lends (s .args .h) (s .args .arena .now) l; bytes = a .before .arena-len .ensures .1 }, q .0, q .1)
+    (record { lent = l; bytes = a .before .arena-len .ensures .1 }, q .0, q .1)
 
 same-length-3 : tie.Need-same-length-3
 same-length-3 c = search needs
@@ -88,9 +86,9 @@ returns-3 c =
     let k = y .before .before .before .before in
     let a = k .before in
     let s = a .before .before .before .before in
-    let l = tested-fair (s .args .h) (s .args .arena .now) (a .before .arena-len .ensures .0) (a .check .ensures) (k .match .keys2) in
+    let l = tested-lent (s .args .h) (s .args .arena .now) (a .before .arena-len .ensures .0) (a .check .ensures) (k .match .keys2) in
     let e = sym (y .before .before .align-layout .ensures) ∙ y .layout .given .1 in
-    let on = free-on (s .args .h) (s .args .arena .now) (l .1) (fair-sound (s .args .h) (l .0)) (s .args .addr) (s .args .size) (s .args .align) e in
+    let on = free-on (s .args .h) (s .args .arena .now) (l .lent) (fair-sound (s .args .h) (l .fair)) (s .args .addr) (s .args .size) (s .args .align) e in
     is-left (free (s .args .addr) (s .args .size) (s .args .align)) (s .args .h) (s .args .arena .now) _ on (c .before .before .deallocate .ensures)
 
 pub free-spec : {M : Type 1} → statement M

@@ -1,8 +1,7 @@
 -- `reports::looking::survey` meets its contract: the tests, then a walk to the end, decide 3, 4 and 5. Assumes nothing.
 use mathlib.Core.Path.{sym, _∙_}
 use borrow.Author.Needs.{needs}
-use Rattle.numbers.proofs.Verdicts.{tested-fair}
-use Rattle.cursor.proofs.Lends.{lends}
+use Rattle.numbers.proofs.Verdicts.{tested-lent}
 use Rattle.reports.proofs.Surveyed.{walk-asks, walk-all, walk-broken, walk-sum, walk-found, survey-no, survey-broken, survey-sound}
 use Rattle.reports.proofs.looking.survey.Statement.{statement}
 use Rattle.reports.proofs.looking.survey.Tie as tie
@@ -30,16 +29,14 @@ first-floor-requires c κs =
     let k = c .before .before in
     let a = k .before in
     let s = a .before .before .before in
-    let t = tested-fair (s .args .h) (s .args .arena .now) (a .before .arena-len .ensures .0) (a .check .ensures) (k .match .keys2) in
-    t .0
+    tested-lent (s .args .h) (s .args .arena .now) (a .before .arena-len .ensures .0) (a .check .ensures) (k .match .keys2) .fair
 
 walk-requires : tie.Need-walk-requires
 walk-requires c κs =
     let k = c .before .before .before in
     let a = k .before in
     let s = a .before .before .before in
-    let t = tested-fair (s .args .h) (s .args .arena .now) (a .before .arena-len .ensures .0) (a .check .ensures) (k .match .keys2) in
-    let l = lends (s .args .h) (s .args .arena .now) t in
+    let l = tested-lent (s .args .h) (s .args .arena .now) (a .before .arena-len .ensures .0) (a .check .ensures) (k .match .keys2) in
     walk-asks (s .args .h) (s .args .arena .now) l (c .first-floor .ensures)
 
 enum-known-walked : tie.Need-enum-known-walked
@@ -54,8 +51,7 @@ returns-2 c =
     let k = w .before .before .before .before in
     let a = k .before in
     let s = a .before .before .before in
-    let t = tested-fair (s .args .h) (s .args .arena .now) (a .before .arena-len .ensures .0) (a .check .ensures) (k .match .keys2) in
-    let l = lends (s .args .h) (s .args .arena .now) t in
+    let l = tested-lent (s .args .h) (s .args .arena .now) (a .before .arena-len .ensures .0) (a .check .ensures) (k .match .keys2) in
     let all = walk-all (s .args .h) (s .args .arena .now) l (w .before .first-floor .ensures) (w .walk .ensures) in
     survey-broken (s .args .h) (s .args .arena .now) l (walk-broken (s .args .h) (s .args .arena .now) l all (c .before .match2 .keys2))
 
@@ -64,8 +60,7 @@ sums-up-requires c κs =
     let k = c .before .before .before .before .before .before .before in
     let a = k .before in
     let s = a .before .before .before in
-    let t = tested-fair (s .args .h) (s .args .arena .now) (a .before .arena-len .ensures .0) (a .check .ensures) (k .match .keys2) in
-    t .0
+    tested-lent (s .args .h) (s .args .arena .now) (a .before .arena-len .ensures .0) (a .check .ensures) (k .match .keys2) .fair
 
 returns-3 : tie.Need-returns-3
 returns-3 c =
@@ -74,8 +69,7 @@ returns-3 c =
     let k = w .before .before .before .before in
     let a = k .before in
     let s = a .before .before .before in
-    let t = tested-fair (s .args .h) (s .args .arena .now) (a .before .arena-len .ensures .0) (a .check .ensures) (k .match .keys2) in
-    let l = lends (s .args .h) (s .args .arena .now) t in
+    let l = tested-lent (s .args .h) (s .args .arena .now) (a .before .arena-len .ensures .0) (a .check .ensures) (k .match .keys2) in
     let all = walk-all (s .args .h) (s .args .arena .now) l (w .before .first-floor .ensures) (w .walk .ensures) in
     let e = walk-sum (s .args .h) (s .args .arena .now) l all (y .walked .given .1) ∙ sym (c .before .sums-up .ensures) ∙ c .if1 .taken in
     survey-sound (s .args .h) (s .args .arena .now) l e (walk-found (s .args .h) (s .args .arena .now) l all (y .walked .given .1) e)
@@ -87,8 +81,7 @@ returns-4 c =
     let k = w .before .before .before .before in
     let a = k .before in
     let s = a .before .before .before in
-    let t = tested-fair (s .args .h) (s .args .arena .now) (a .before .arena-len .ensures .0) (a .check .ensures) (k .match .keys2) in
-    let l = lends (s .args .h) (s .args .arena .now) t in
+    let l = tested-lent (s .args .h) (s .args .arena .now) (a .before .arena-len .ensures .0) (a .check .ensures) (k .match .keys2) in
     let all = walk-all (s .args .h) (s .args .arena .now) l (w .before .first-floor .ensures) (w .walk .ensures) in
     survey-broken (s .args .h) (s .args .arena .now) l
     (walk-sum (s .args .h) (s .args .arena .now) l all (y .walked .given .1) ∙ sym (c .before .sums-up .ensures) ∙ c .if1 .left)
