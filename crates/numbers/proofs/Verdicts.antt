@@ -84,6 +84,9 @@ module _ {v : Checked} {len : ℕ} (h : Heap) (m : List ℕ) (lent : len ≡ len
       let p = passes len h (sym said ∙ fair-is v o) in
       record { fair = sound-fair h (p .1); lent = sym lent ∙ p .0 }
 
+  pub tested-numbers : OneOf (0 ∷ []) (tagOf Verdict.the-type v) → soundNumbers h ≡ true
+  tested-numbers o = passes len h (sym said ∙ fair-is v o) .1
+
   -- the call hands the refusal back
   pub tested-no : (c : Call) → Opens c ≡ false → {r : Refusal} {d : Done} → v ≡ No r → (d .answer ≡ Refused r) × (d .heap ≡ h)
       → Is (after c h m) d m

@@ -1,0 +1,68 @@
+-- Heads that a call decides to write, and what its decision comes to. Assumes nothing.
+use mathlib.Core.Path.{_≡_, refl}
+use mathlib.Core.List.{List}
+use Prim.Native.Nat.{ℕ}
+use lib.ListN.{length}
+use borrow.Author.Tests.{ne-eqb}
+use Rattle.rules.specs.declared.Addr.{Addr}
+use Rattle.rules.specs.declared.Place.{Place}
+use Rattle.rules.specs.declared.Hole.{Hole}
+use Rattle.rules.specs.declared.Heap.{Heap}
+use Rattle.rules.specs.declared.Write.{Write}
+use Rattle.rules.specs.declared.Writes.{Writes}
+use Rattle.rules.specs.declared.Refusal.{Refusal}
+use Rattle.rules.specs.declared.Answer.{Answer}
+use Rattle.rules.specs.Kinds.{none, isNone}
+use Rattle.rules.specs.Holes.{putHead}
+use Rattle.rules.specs.Calls.{refused, changed}
+use Rattle.rules.specs.Outcome.{leaves}
+use Rattle.rules.specs.Inner.{put, written, refusing, Relinks, Decides}
+use Rattle.rules.proofs.Cases.{by-test}
+use Rattle.rules.proofs.Heads.{putHead-length}
+
+-- ---- one head
+
+pub put-some : (w : Write) (m : List ℕ) → (w .at .0 ≡ none .0 → ⊥) → put w m ≡ putHead m (w .at) (w .head)
+unfolding put
+put-some w m n = rw (ne-eqb (w .at .0) (none .0) n)
+
+pub put-length : (w : Write) (m : List ℕ) → length (put w m) ≡ length m
+unfolding put
+put-length w m =
+    by-test (λ (l : List ℕ). length l ≡ length m) (isNone (w .at)) m (putHead m (w .at) (w .head))
+    (λ e. refl)
+    (λ e. putHead-length m (w .at) (w .head))
+
+-- ---- what a call decides
+
+module _ (h : Heap) (m : List ℕ) where
+  -- a refused call writes nothing
+  pub decides-refused : (r : Refusal) → Decides (leaves h m (refused r)) m (refusing h r)
+  unfolding leaves put written
+  decides-refused r =
+      record {
+        answer = refl;
+        heap = refl;
+        heads = record { one = λ n. absurd (n refl); two = λ n. absurd (n refl); arena = refl };
+      }
+
+  -- a changed list, with a new top, pending and used
+  pub decides-changed : (a : Answer) (ks : List Hole) (top : Addr) (pending used : ℕ) {first : Place} {ws : Writes}
+      → Relinks (h .base) m ks first ws
+      → Decides (leaves h m (changed a h ks top pending used)) m
+      (record {
+        heap =
+            record {
+              base = h .base;
+              len = h .len;
+              bottom = h .bottom;
+              top = top;
+              first = first;
+              pending = pending;
+              used = used;
+            };
+        answer = a;
+        heads = ws;
+      })
+  unfolding leaves
+  decides-changed a ks top pending used r = record { answer = refl; heap = rw (r .first); heads = r .heads }
