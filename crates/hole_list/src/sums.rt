@@ -1,9 +1,9 @@
-// Whether the sizes of the holes add up, and the answer of a refused call.
+// Whether the sizes of the holes add up, and what a call decides where they do not.
 use cursor::Walked;
 use cursor::first_floor;
 use cursor::walk;
-use rules::Answer;
-use rules::Done;
+use hole::refuse;
+use rules::Decided;
 use rules::Heap;
 use rules::Refusal;
 ghost use mathlib.Core.Path.{_≡_};
@@ -11,18 +11,8 @@ ghost use mathlib.Core.Bool.{cond};
 ghost use Prim.Native.Nat.{_+_};
 ghost use lib.Dec.{eqb};
 ghost use Rattle.rules.specs.Sound.{size, soundHoles, holes};
-ghost use Rattle.rules.specs.Inner.{Fair, Lent};
+ghost use Rattle.rules.specs.Inner.{Fair, Lent, refusing};
 ghost use Rattle.hole_list.specs.Settled.{addsUp};
-
-// A refused call: the heap comes back as it went in.
-pub fn refuse(h: Heap, r: Refusal) -> Done
-    ensures { λ d. ⌜ (d .answer ≡ Answer.Refused r) × (d .heap ≡ h) ⌝ }
-{
-    Done {
-        heap: h,
-        answer: Answer::Refused(r),
-    }
-}
 
 // The sum of the sizes is size − used.
 pub fn sums_up(h: Heap, total: u64) -> bool
@@ -61,10 +51,10 @@ pub fn is_sound(h: Heap, arena: &[u8]) -> bool
     adds_up(h, walk(h, arena, first, first_floor(h), 0))
 }
 
-// A refusal that comes after 5: the holes are walked first.
-pub fn refuse_sound(h: Heap, arena: &[u8], r: Refusal) -> Done
+// Refuses where the holes keep every rule; where they do not, 5 comes first.
+pub fn refuse_if_sound(h: Heap, arena: &[u8], r: Refusal) -> Decided
     requires { ⌜ Lent h (now arena) ⌝ }
-    ensures { λ d. ⌜ (d .answer ≡ Answer.Refused (cond (soundHoles h (holes h (now (arena .entry)))) r Refusal.NotSound)) × (d .heap ≡ h) ⌝ }
+    ensures { λ d. ⌜ d ≡ refusing h (cond (soundHoles h (holes h (now (arena .entry)))) r Refusal.NotSound) ⌝ }
 {
     if is_sound(h, arena) {
         return refuse(h, r);
