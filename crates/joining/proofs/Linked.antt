@@ -51,7 +51,7 @@ last-below base p lo hi k (j ∷ js) a r =
     last-below base (placeOf base (k .addr)) (k .addr .0 + k .size) hi j js (omega arith) (r .2)
 
 -- so it lies at a place
-last-place : (base : Addr) (p : Place) (lo hi : ℕ) (k : Hole) (ks : List Hole) → base .0 ≤ lo → hi < 2 ^ 64 - 1 → Rises lo hi (k ∷ ks)
+pub last-place : (base : Addr) (p : Place) (lo hi : ℕ) (k : Hole) (ks : List Hole) → base .0 ≤ lo → hi < 2 ^ 64 - 1 → Rises lo hi (k ∷ ks)
     → isNone (lastPlace base p (k ∷ ks)) ≡ false
 last-place base p lo hi k ks a b r =
     let l = last-below base p lo hi k ks a r in
