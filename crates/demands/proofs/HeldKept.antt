@@ -26,11 +26,12 @@ use Rattle.rules.specs.InWords.{Valid}
 use Rattle.rules.specs.Inner.{Fair}
 use Rattle.rules.proofs.Cases.{by-test, apart, all-each, each-all}
 use Rattle.rules.proofs.Layouts.{layout-passed}
+use Rattle.rules.proofs.Decide.{rest}
 use Rattle.rules.proofs.SoundWords.{rounded-rounds, holes-words}
 use Rattle.rules.proofs.Passes.{Passes, by-decided}
 use Rattle.rules.proofs.Used.{find-splits}
 use Rattle.rules.proofs.Suits.{candidate-eight, found-lies}
-use Rattle.rules.proofs.SoundKept.{passed-stands}
+use Rattle.rules.proofs.SoundKept.{passed-opened}
 use Rattle.rules.proofs.Totals.{added, freed-added, used-added}
 use Rattle.rules.proofs.Cover.{once, cover, once-behind, joined-once, once-adds}
 use Rattle.demands.proofs.Tiling.{span, spans, range, Filled}
@@ -191,9 +192,8 @@ call-settled (opening base named) n b f t settled = settles (opening base named)
 call-settled (allocate s align) n b f t settled =
     settles (allocate s align) n b settled
     (λ p.
-    taken-settled b settled s align (find (rounded s) align (b .holes)) (passed-valid s align (f .1) (p .1 .1 .1 .0))
-    (passed-stands n (b .heap) (b .holes) (p .1 .0) (p .1 .1 .0) .sound)
-    refl)
+    let (st, q) = passed-opened n (b .heap) (b .holes) (rest (allocate s align) (b .heap) (b .holes)) p in
+    taken-settled b settled s align (find (rounded s) align (b .holes)) (passed-valid s align (f .1) (q .0)) (st .sound) refl)
 call-settled (free x s align) n b f t settled =
     by-decided
     (λ (o : Outcome).
@@ -205,7 +205,7 @@ call-settled (free x s align) n b f t settled =
     t
 call-settled (extend by) n b f t settled =
     settles (extend by) n b settled
-    (λ p. extended-settled b settled by (passed-stands n (b .heap) (b .holes) (p .1 .0) (p .1 .1 .0) .fair))
+    (λ p. extended-settled b settled by (passed-opened n (b .heap) (b .holes) (rest (extend by) (b .heap) (b .holes)) p .0 .fair))
 call-settled list n b f t settled = settles list n b settled (λ p. settled)
 call-settled room n b f t settled = settles room n b settled (λ p. settled)
 

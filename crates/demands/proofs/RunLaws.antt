@@ -18,7 +18,7 @@ use Rattle.rules.specs.Fixed.{minSize}
 use Rattle.rules.specs.Tests.{any}
 use Rattle.rules.specs.Kinds.{addr, same}
 use Rattle.rules.specs.Holes.{holesFrom}
-use Rattle.rules.specs.Sound.{unopened, most, sound, holes}
+use Rattle.rules.specs.Sound.{unopened, most, soundNumbers, soundHoles, holes}
 use Rattle.rules.specs.Allocate.{rounded, Found, nothing, found, find}
 use Rattle.rules.specs.Calls.{Call, opening, allocate, free, extend, list, room, Outcome, refused, told, done, taken, given, gathered, grown, extended, accepted}
 use Rattle.rules.specs.Answers.{refusalNumbers}
@@ -30,7 +30,7 @@ use Rattle.rules.specs.Statements.{FollowsFromCalls, SideBySide, NeverUnsound}
 use Rattle.rules.proofs.Cases.{cases, apart, by-test, or-left}
 use Rattle.rules.proofs.Lists.{SameHeads, frame}
 use Rattle.rules.proofs.Decide.{unless-4, rest, Opens}
-use Rattle.rules.proofs.SoundWords.{fair-words, words-sound}
+use Rattle.rules.proofs.SoundWords.{fair-words, words-numbers, words-holes}
 use Rattle.rules.proofs.SoundKept.{Keeps, decided-keeps, outcome-keeps}
 use Rattle.rules.proofs.MemoryWords.{stands-read}
 
@@ -222,15 +222,14 @@ module _ (n : ℕ) (h : Heap) (ks : List Hole) where
   unfolding extended gathered grown
   extended-spare by = by-test NoFive (ltb (h .pending + by) minSize) _ _ (λ e. tt) (λ e. tt)
 
-  module _ (v : (h .bottom .0 ≡ 0 → ⊥) → sound h ks ≡ true) where
+  module _ (v : (h .bottom .0 ≡ 0 → ⊥) → (soundNumbers h ≡ true) × (soundHoles h ks ≡ true)) where
     opened-spare : (ts : List Test) → Spare ts → Spare (openedTests n h ks ++ ts)
     unfolding refusalNumbers
     opened-spare ts s = (
       λ e. absurd (omega arith),
-      λ p. (
-        λ e. absurd (omega arith),
-        λ q. (λ e. rw (v (eqb-false (h .bottom .0) 0 (or-left (same (h .bottom) (addr 0)) false p))), λ e. s),
-      ),
+      λ p.
+          let (numbers, its) = v (eqb-false (h .bottom .0) 0 (or-left (same (h .bottom) (addr 0)) false p)) in
+          (λ e. absurd (omega arith), λ q. (λ e. rw numbers, λ e. (λ e. rw its, λ e. s))),
     )
 
     decided-spare : (c : Call) → NoFive (decided c n h ks)
@@ -253,9 +252,10 @@ module _ (n : ℕ) (h : Heap) (ks : List Hole) where
     decided-spare list = unless-spare (tests list n h ks) _ (opened-spare [] tt) tt
     decided-spare room = unless-spare (tests room n h ks) _ (opened-spare [] tt) tt
 
-whole-sound : (b : Box) → Whole b → (b .heap .bottom .0 ≡ 0 → ⊥) → sound (b .heap) (b .holes) ≡ true
+whole-sound : (b : Box) → Whole b → (b .heap .bottom .0 ≡ 0 → ⊥)
+    → (soundNumbers (b .heap) ≡ true) × (soundHoles (b .heap) (b .holes) ≡ true)
 whole-sound b (inl e) o = absurd (o (rw e))
-whole-sound b (inr s) o = words-sound (b .heap) (b .holes) s
+whole-sound b (inr s) o = (words-numbers (b .heap) (s .0), words-holes (b .heap) (b .holes) (s .1))
 
 whole-spare : (b : Box) → Whole b → (c : Call) (n : ℕ) → comesTo c n b ≡ refused NotSound → ⊥
 unfolding refusalNumbers

@@ -1,6 +1,6 @@
 -- What is printed of a call: its answer's line and, of a list, the lines of its holes. Assumes nothing.
 use mathlib.Core.Path.{_≡_, refl, sym, _∙_}
-use mathlib.Core.Bool.{Bool, true, false, not}
+use mathlib.Core.Bool.{Bool, true, false}
 use mathlib.Core.List.{List, [], _∷_, _++_, append-nil}
 use Prim.Native.Nat.{ℕ, _+_, _≤_}
 use native.Mathlib.Omega.{arith}
@@ -15,13 +15,13 @@ use Rattle.rules.specs.declared.Refusal.the-variants as no
 use Rattle.rules.specs.declared.Answer.the-variants.{Listed}
 use Rattle.rules.specs.Fixed.{minSize}
 use Rattle.rules.specs.Tests.{any}
-use Rattle.rules.specs.Sound.{sound, soundNumbers, soundHoles, holes}
+use Rattle.rules.specs.Sound.{soundNumbers, soundHoles, holes}
 use Rattle.rules.specs.Allocate.{Found, nothing, found, find, rounded}
 use Rattle.rules.specs.Calls.{Call, opening, allocate, free, extend, list, room, Outcome, refused, told, done, taken, extended, accepted, given, grown, gathered}
 use Rattle.rules.specs.Refusals.{Test, tests, unless}
 use Rattle.rules.specs.Answers.{refusalNumbers, answerNumbers}
 use Rattle.rules.specs.Outcome.{decided, outcome, leaves, after, Rows, over, inRows, leavesRows}
-use Rattle.rules.proofs.Cases.{by-test, apart, and-left, and-right, or-left}
+use Rattle.rules.proofs.Cases.{by-test, apart, or-left}
 use Rattle.rules.proofs.Walk.{sound-fair, sound-count}
 use Rattle.frame.specs.Wire.{numbersLine, holeLines, spoken}
 
@@ -117,11 +117,8 @@ refusal-one no.BadSpan = refl
 refusal-one no.PastArena = refl
 
 -- an arena has at most 65,536 bytes, so a sound heap has at most 2,048 holes
-sound-few : (h : Heap) (ks : List Hole) → sound h ks ≡ true → length ks ≤ 2048
-unfolding sound
-sound-few h ks e =
-    let f = sound-fair h (and-left (soundNumbers h) (soundHoles h ks) e) in
-    omega (arith, sound-count h f ks (and-right (soundNumbers h) (soundHoles h ks) e))
+sound-few : (h : Heap) (ks : List Hole) → soundNumbers h ≡ true → soundHoles h ks ≡ true → length ks ≤ 2048
+sound-few h ks n e = let f = sound-fair h n in omega (arith, sound-count h f ks e)
 
 -- the answer has the number of the holes printed, and the rows hold them
 pub record Listing (h : Heap) (m : List ℕ) (o : Outcome) : Type 0 where
@@ -133,14 +130,16 @@ refused-listing : (h : Heap) (m : List ℕ) (r : Refusal) → Listing h m (refus
 unfolding leaves answerNumbers shown leavesRows inRows over
 refused-listing h m r = record { count = refusal-one r; few = omega arith; rows = λ rs. simp take-nil }
 
-told-listing : (h : Heap) (m : List ℕ) (bytes : ℕ) (ks : List Hole) → sound h ks ≡ true
+told-listing : (h : Heap) (m : List ℕ) (bytes : ℕ) (ks : List Hole) → length ks ≤ 2048
     → Listing h m (told (Listed (length ks) bytes) ks)
 unfolding leaves answerNumbers shown leavesRows
-told-listing h m bytes ks e = record { count = refl; few = sound-few h ks e; rows = λ rs. refl }
+told-listing h m bytes ks few = record { count = refl; few = few; rows = λ rs. refl }
 
 pub listing : (h : Heap) (m : List ℕ) → Listing h m (outcome list h m)
 unfolding outcome decided tests accepted
 listing h m =
     let ks = holes h m in
     by-tests (Listing h m) _ _ (refused-listing h m)
-    (λ p. told-listing h m _ ks (not-false (sound h ks) (or-left (not (sound h ks)) false (p .1 .1 .0))))
+    (λ (unopened, (lent, (numbers, (its, behind)))).
+    told-listing h m _ ks
+    (sound-few h ks (not-false (soundNumbers h) (or-left _ _ numbers)) (not-false (soundHoles h ks) (or-left _ _ its))))

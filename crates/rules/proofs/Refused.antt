@@ -10,22 +10,23 @@ use borrow.Author.Tests.{not-false}
 use Rattle.rules.specs.declared.Hole.{Hole}
 use Rattle.rules.specs.declared.Heap.{Heap}
 use Rattle.rules.specs.declared.Refusal.{Refusal}
-use Rattle.rules.specs.declared.Refusal.the-variants.{BadLayout, NoRoom, BadSpan, PastArena}
+use Rattle.rules.specs.declared.Refusal.the-variants.{Unopened, OtherLength, NotSound, BadLayout, NoRoom, BadSpan, PastArena}
 use Rattle.rules.specs.declared.Answer.{Answer}
 use Rattle.rules.specs.Fixed.{minSize}
 use Rattle.rules.specs.Round.{Power}
 use Rattle.rules.specs.Tests.{any}
 use Rattle.rules.specs.Holes.{hole}
-use Rattle.rules.specs.Sound.{sound, holes}
+use Rattle.rules.specs.Sound.{soundNumbers, soundHoles, sound, holes}
 use Rattle.rules.specs.Allocate.{rounded, candidate, Found, nothing, found, find}
 use Rattle.rules.specs.Calls.{opening, allocate, free, extend, list, room, Outcome, refused, told, done, taken, given, gathered, grown, extended, accepted}
-use Rattle.rules.specs.Refusals.{refusal6, refusal8, refusal9, Test, test, openedTests, tests, unless}
+use Rattle.rules.specs.Refusals.{refusal3, refusal4, refusal6, refusal8, refusal9, Test, test, openedTests, tests, unless}
 use Rattle.rules.specs.Outcome.{decided, outcome}
 use Rattle.rules.specs.InWords.{Rounds, RoomAt, NoLayout, NoSpan}
 use Rattle.rules.specs.Behaviour.{ours}
 use Rattle.rules.specs.Statements.{Row, Decides, refusalsOf, RefusalsExactly}
 use Rattle.rules.proofs.Cases.{cases, by-test, or-left}
 use Rattle.rules.proofs.Layouts.{layout-passed}
+use Rattle.rules.proofs.Decide.{one-test}
 use Rattle.rules.proofs.SoundWords.{rounded-rounds, rounds-rounded, sound-words, sound-means}
 use Rattle.rules.proofs.TestWords.{Means, means-eq, means-lt, means-not, means-last, means-rounds, no-start, no-layout, no-span}
 use Rattle.rules.proofs.Suits.{nothing-room, found-room}
@@ -77,18 +78,17 @@ module _ (h : Heap) (m : List ℕ) where
   opened-decides : (ts us : List Row) (qs : List Test) (o : Outcome) → Meets ts qs
       → (sound h (holes h m) ≡ true → Passes qs → Decides us o)
       → Decides (refusalsOf ours list h m ++ (ts ++ us)) (unless (openedTests (length m) h (holes h m) ++ qs) o)
-  unfolding unless
+  unfolding unless sound
   opened-decides ts us qs o n f =
-      decides (refusalsOf ours list h m) (ts ++ us) (openedTests (length m) h (holes h m)) (unless qs o) (
+      let ks = holes h m in
+      rw (one-test NotSound (soundNumbers h) (soundHoles h ks) qs o)
+      (decides (refusalsOf ours list h m ++ ts) us
+      (test Unopened (refusal3 h) ∷ test OtherLength (refusal4 (length m) h) ∷ test NotSound (not (sound h ks) ∷ []) ∷ qs) o (
         refl,
         means-last (means-eq (h .bottom .0) 0),
-        (
-          refl,
-          means-last (means-not (means-eq (length m) (h .len))),
-          (refl, means-last (means-not (sound-means h (holes h m))), tt),
-        ),
+        (refl, means-last (means-not (means-eq (length m) (h .len))), (refl, means-last (means-not (sound-means h ks)), n)),
       )
-      (λ p. decides ts us qs o n (f (not-false (sound h (holes h m)) (or-left (not (sound h (holes h m))) false (p .1 .1 .0)))))
+      (λ p. f (not-false (sound h ks) (or-left (not (sound h ks)) false (p .1 .1 .0))) (p .1 .1 .1)))
 
   -- 7: where no hole is found there is no room, and where one is there is
   room-decides : (s align : ℕ) (f : Found) → Power align → sound h (holes h m) ≡ true → find (rounded s) align (holes h m) ≡ f

@@ -14,19 +14,20 @@ use Rattle.rules.specs.Fixed.{minSize, grain}
 use Rattle.rules.specs.Round.{Power, downTo}
 use Rattle.rules.specs.Tests.{any}
 use Rattle.rules.specs.Holes.{hole, firstOf}
-use Rattle.rules.specs.Sound.{soundNumbers, soundHoles, sound, holes}
+use Rattle.rules.specs.Sound.{soundNumbers, soundHoles, holes}
 use Rattle.rules.specs.Allocate.{rounded, Found, nothing, found, find, split}
 use Rattle.rules.specs.Free.{freed}
 use Rattle.rules.specs.Calls.{Call, opening, allocate, free, extend, list, room, Outcome, refused, told, done, opened, taken, given, grown, gathered, extended, accepted}
-use Rattle.rules.specs.Refusals.{refusal4, refusal5, refusal8, tests}
+use Rattle.rules.specs.Refusals.{refusal8, Test, openedTests, tests}
 use Rattle.rules.specs.Outcome.{decided, outcome}
 use Rattle.rules.specs.Runs.{Fits}
 use Rattle.rules.specs.Behaviour.{ours}
 use Rattle.rules.specs.Statements.{SoundKept}
 use Rattle.rules.specs.Inner.{Fair}
-use Rattle.rules.proofs.Cases.{by-test, and-left, and-right, or-left}
+use Rattle.rules.proofs.Cases.{by-test, or-left}
 use Rattle.rules.proofs.Layouts.{rounded-multiple, rounded-least, layout-passed}
 use Rattle.rules.proofs.Walk.{sound-fair, sound-count}
+use Rattle.rules.proofs.Decide.{rest}
 use Rattle.rules.proofs.SoundWords.{fair-words}
 use Rattle.rules.proofs.AllocateKept.{allocate-kept}
 use Rattle.rules.proofs.FreeKept.{renewed-fair, free-sound, gather-fair, gather-sound, grow-fair, grow-sound}
@@ -45,16 +46,17 @@ Keeps len (refused r) = Unit {0}
 Keeps len (told a ks) = Unit {0}
 Keeps len (done a h ks) = Stands len h ks × (h .first ≡ firstOf (h .base) ks)
 
-pub passed-stands : (len : ℕ) (h : Heap) (ks : List Hole) → any (refusal4 len h) ≡ false → any (refusal5 h ks) ≡ false
-    → Stands len h ks
-unfolding sound
-passed-stands len h ks p q =
-    let s = not-false (sound h ks) (or-left _ _ q) in
-    record {
-      fair = sound-fair h (and-left (soundNumbers h) (soundHoles h ks) s);
-      sound = and-right (soundNumbers h) (soundHoles h ks) s;
-      arena = eqb-true len (h .len) (not-false (eqb len (h .len)) (or-left _ _ p));
-    }
+-- what 3, 4 and 5 let through stands, and has passed the tests behind them
+pub passed-opened : (len : ℕ) (h : Heap) (ks : List Hole) (ts : List Test) → Passes (openedTests len h ks ++ ts)
+    → Stands len h ks × Passes ts
+passed-opened len h ks ts (open′, (lent, (numbers, (its, behind)))) = (
+  record {
+    fair = sound-fair h (not-false (soundNumbers h) (or-left _ _ numbers));
+    sound = not-false (soundHoles h ks) (or-left _ _ its);
+    arena = eqb-true len (h .len) (not-false (eqb len (h .len)) (or-left _ _ lent));
+  },
+  behind,
+)
 
 -- ---- call by call
 
@@ -125,14 +127,15 @@ accepted-keeps (opening base named) len h ks f p = (
   unfold opened in refl,
 )
 accepted-keeps (allocate s align) len h ks f p =
-    taken-keeps len h ks (passed-stands len h ks (p .1 .0) (p .1 .1 .0)) (rounded s) align (find (rounded s) align ks)
-    (layout-passed s align (f .1) (p .1 .1 .1 .0) .power) (rounded-multiple s) (rounded-least s) refl
+    let (st, q) = passed-opened len h ks (rest (allocate s align) h ks) p in
+    taken-keeps len h ks st (rounded s) align (find (rounded s) align ks) (layout-passed s align (f .1) (q .0) .power)
+    (rounded-multiple s) (rounded-least s) refl
 accepted-keeps (free x s align) len h ks f p =
-    given-keeps len h ks (passed-stands len h ks (p .1 .0) (p .1 .1 .0)) (rounded s) x align (rounded-multiple s) (rounded-least s)
-    (p .1 .1 .1 .1 .0)
+    let (st, q) = passed-opened len h ks (rest (free x s align) h ks) p in
+    given-keeps len h ks st (rounded s) x align (rounded-multiple s) (rounded-least s) (q .1 .0)
 accepted-keeps (extend by) len h ks f p =
-    extended-keeps len h ks (passed-stands len h ks (p .1 .0) (p .1 .1 .0)) by
-    (ltb-false (h .base .0 + h .len) (h .top .0 + h .pending + by) (or-left _ _ (p .1 .1 .1 .0)))
+    let (st, q) = passed-opened len h ks (rest (extend by) h ks) p in
+    extended-keeps len h ks st by (ltb-false (h .base .0 + h .len) (h .top .0 + h .pending + by) (or-left _ _ (q .0)))
 accepted-keeps list len h ks f p = tt
 accepted-keeps room len h ks f p = tt
 

@@ -15,7 +15,7 @@ use Rattle.rules.specs.Fixed.{arenaLimit, addrLimit, minSize, grain, wid
 use Rattle.rules.specs.Tests.{any}
 use Rattle.rules.specs.Kinds.{addr, plus, same, before, multipleOf}
 use Rattle.rules.specs.Holes.{hole, end}
-use Rattle.rules.specs.Sound.{arenaEnd, sound}
+use Rattle.rules.specs.Sound.{arenaEnd, soundNumbers, soundHoles}
 use Rattle.rules.specs.Allocate.{rounded}
 use Rattle.rules.specs.Free.{overlaps, eight, eightToHole}
 use Rattle.rules.specs.Calls.{Call, opening, allocate, free, extend, list, room, onlyHole, Outcome, refused}
@@ -44,9 +44,13 @@ refusal3 h = same (h .bottom) (addr 0) ∷ []
 abbrev pub refusal4 : ℕ → Heap → List Bool
 refusal4 len h = not (eqb len (h .len)) ∷ []
 
--- heap not sound
-abbrev pub refusal5 : Heap → List Hole → List Bool
-refusal5 h ks = not (sound h ks) ∷ []
+-- heap not sound: its numbers break a rule
+abbrev pub refusal5Numbers : Heap → List Bool
+refusal5Numbers h = not (soundNumbers h) ∷ []
+
+-- or its holes do
+abbrev pub refusal5Holes : Heap → List Hole → List Bool
+refusal5Holes h ks = not (soundHoles h ks) ∷ []
 
 -- a power of two is known by its count of ones
 abbrev pub onePower : ℕ → Bool
@@ -90,7 +94,11 @@ test r bs = record { gives = r; «exactly-if» = bs }
 -- 3, 4 and 5: all calls but open
 abbrev pub openedTests : ℕ → Heap → List Hole → List Test
 openedTests len h ks =
-    test Unopened (refusal3 h) ∷ test OtherLength (refusal4 len h) ∷ test NotSound (refusal5 h ks) ∷ []
+    test Unopened (refusal3 h)
+    ∷ test OtherLength (refusal4 len h)
+    ∷ test NotSound (refusal5Numbers h)
+    ∷ test NotSound (refusal5Holes h ks)
+    ∷ []
 
 -- open tests 2, then 1; the rest test in rising order. 7 comes of the walk itself (`taken`)
 unfoldable pub tests : Call → ℕ → Heap → List Hole → List Test
