@@ -19,14 +19,15 @@ use Rattle.rules.specs.Kinds.{addr, same}
 use Rattle.rules.specs.Holes.{hole, end}
 use Rattle.rules.specs.Sound.{soundHoles}
 use Rattle.rules.specs.Allocate.{rounded, Found, nothing, found, find}
-use Rattle.rules.specs.Calls.{Call, opening, allocate, free, extend, list, room, Outcome, done, onlyHole, opened, taken, given, grown, gathered, extended, accepted}
-use Rattle.rules.specs.Refusals.{refusal6, tests}
+use Rattle.rules.specs.Changes.{Change}
+use Rattle.rules.specs.Calls.{Call, opening, change, report, allocate, free, extend, Outcome, done, onlyHole, opened, taken, given, grown, gathered, extended, accepted}
+use Rattle.rules.specs.Refusals.{refusal6, changeTests, tests}
+use Rattle.rules.specs.Answers.{answerNumbers}
 use Rattle.rules.specs.Runs.{Fits, Ask, calls, reads, AllFit, Block, block, sameBlock, without, Box, start, heldAfter, comesTo, boxAfter, nextBox, ends, HonestCall, Honest}
 use Rattle.rules.specs.InWords.{Valid}
 use Rattle.rules.specs.Inner.{Fair}
 use Rattle.rules.proofs.Cases.{by-test, apart, all-each, each-all}
 use Rattle.rules.proofs.Layouts.{layout-passed}
-use Rattle.rules.proofs.Decide.{rest}
 use Rattle.rules.proofs.SoundWords.{rounded-rounds, holes-words}
 use Rattle.rules.proofs.Passes.{Passes, by-decided}
 use Rattle.rules.proofs.Used.{find-splits}
@@ -109,7 +110,7 @@ module _ (b : Box) (settled : Settled b) where
   taken-settled : (s align : ℕ) (f : Found) → Valid s align (rounded s) → soundHoles (b .heap) (b .holes) ≡ true
       → find (rounded s) align (b .holes) ≡ f
       → Settled (boxAfter (allocate s align) b (taken (rounded s) align (b .heap) (b .holes) f))
-  unfolding taken boxAfter heldAfter added
+  unfolding taken boxAfter heldAfter answerNumbers added
   taken-settled s align nothing v sound e = settled
   taken-settled s align (found front k back) v sound e =
       let r = rounded s in
@@ -189,12 +190,12 @@ settles c n b settled =
 call-settled : (c : Call) (n : ℕ) (b : Box) → Fits c → HonestCall c n b → Settled b → Settled (boxAfter c b (comesTo c n b))
 unfolding tests boxAfter accepted
 call-settled (opening base named) n b f t settled = settles (opening base named) n b settled (λ p. opened-settled b n base named)
-call-settled (allocate s align) n b f t settled =
+call-settled (change (Change.allocate s align)) n b f t settled =
     settles (allocate s align) n b settled
     (λ p.
-    let (st, q) = passed-opened n (b .heap) (b .holes) (rest (allocate s align) (b .heap) (b .holes)) p in
+    let (st, q) = passed-opened n (b .heap) (b .holes) (changeTests (Change.allocate s align) (b .heap) (b .holes)) p in
     taken-settled b settled s align (find (rounded s) align (b .holes)) (passed-valid s align (f .1) (q .0)) (st .sound) refl)
-call-settled (free x s align) n b f t settled =
+call-settled (change (Change.free x s align)) n b f t settled =
     by-decided
     (λ (o : Outcome).
     ((a : Answer) (h : Heap) (ks : List Hole) → o ≡ done a h ks → List·Memᴰ (block x s align) (b .held))
@@ -203,11 +204,12 @@ call-settled (free x s align) n b f t settled =
     (λ r q. settled)
     (λ p q. given-settled b settled x s align (unfold given in q _ _ _ refl))
     t
-call-settled (extend by) n b f t settled =
+call-settled (change (Change.extend by)) n b f t settled =
     settles (extend by) n b settled
-    (λ p. extended-settled b settled by (passed-opened n (b .heap) (b .holes) (rest (extend by) (b .heap) (b .holes)) p .0 .fair))
-call-settled list n b f t settled = settles list n b settled (λ p. settled)
-call-settled room n b f t settled = settles room n b settled (λ p. settled)
+    (λ p.
+    extended-settled b settled by
+    (passed-opened n (b .heap) (b .holes) (changeTests (Change.extend by) (b .heap) (b .holes)) p .0 .fair))
+call-settled (report r) n b f t settled = settles (report r) n b settled (λ p. settled)
 
 pub ends-settled : (asks : List Ask) (b : Box) → AllFit asks → Honest asks b → Settled b → Settled (ends asks b)
 unfolding ends nextBox

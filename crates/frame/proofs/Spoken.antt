@@ -2,10 +2,9 @@
 use mathlib.Core.Path.{_≡_, refl, sym, _∙_}
 use mathlib.Core.Bool.{Bool, true, false}
 use mathlib.Core.List.{List, [], _∷_, _++_, append-nil}
-use Prim.Native.Nat.{ℕ, _+_, _≤_}
+use Prim.Native.Nat.{ℕ, _≤_}
 use native.Mathlib.Omega.{arith}
 use lib.ListN.{length}
-use lib.Dec.{ltb}
 use lib.Seq.{take-nil}
 use borrow.Author.Tests.{not-false}
 use Rattle.rules.specs.declared.Hole.{Hole}
@@ -13,16 +12,16 @@ use Rattle.rules.specs.declared.Heap.{Heap}
 use Rattle.rules.specs.declared.Refusal.{Refusal}
 use Rattle.rules.specs.declared.Refusal.the-variants as no
 use Rattle.rules.specs.declared.Answer.the-variants.{Listed}
-use Rattle.rules.specs.Fixed.{minSize}
 use Rattle.rules.specs.Tests.{any}
 use Rattle.rules.specs.Sound.{soundNumbers, soundHoles, holes}
-use Rattle.rules.specs.Allocate.{Found, nothing, found, find, rounded}
-use Rattle.rules.specs.Calls.{Call, opening, allocate, free, extend, list, room, Outcome, refused, told, done, taken, extended, accepted, given, grown, gathered}
+use Rattle.rules.specs.Changes.{Report}
+use Rattle.rules.specs.Calls.{Call, opening, change, report, list, room, Outcome, refused, told, done, accepted}
 use Rattle.rules.specs.Refusals.{Test, tests, unless}
 use Rattle.rules.specs.Answers.{refusalNumbers, answerNumbers}
 use Rattle.rules.specs.Outcome.{decided, outcome, leaves, after, Rows, over, inRows, leavesRows}
 use Rattle.rules.proofs.Cases.{by-test, apart, or-left}
 use Rattle.rules.proofs.Walk.{sound-fair, sound-count}
+use Rattle.rules.proofs.Renews.{Renews, change-renews}
 use Rattle.frame.specs.Wire.{numbersLine, holeLines, spoken}
 
 -- the holes that an outcome prints
@@ -57,25 +56,22 @@ by-tests P (t ∷ ts) o f g =
 -- list prints more
 abbrev pub lists : Call → Bool
 lists (opening base named) = false
-lists (allocate s align) = false
-lists (free a s align) = false
-lists (extend by) = false
-lists list = true
-lists room = false
+lists (change c) = false
+lists (report Report.list) = true
+lists (report Report.room) = false
 
-found-shown : (s align : ℕ) (h : Heap) (ks : List Hole) (f : Found) → shown (taken s align h ks f) ≡ []
-unfolding taken shown
-found-shown s align h ks nothing = refl
-found-shown s align h ks (found front k back) = refl
+renews-shown : (h : Heap) (o : Outcome) → Renews h o → shown o ≡ []
+unfolding shown
+renews-shown h (refused r) e = refl
+renews-shown h (told a ks) e = absurd e
+renews-shown h (done a h′ ks) e = refl
 
 accepted-shown : (c : Call) (len : ℕ) (h : Heap) (ks : List Hole) → lists c ≡ false → shown (accepted c len h ks) ≡ []
-unfolding accepted shown extended given grown gathered
+unfolding accepted shown
 accepted-shown (opening base named) len h ks e = refl
-accepted-shown (allocate s align) len h ks e = found-shown (rounded s) align h ks (find (rounded s) align ks)
-accepted-shown (free a s align) len h ks e = refl
-accepted-shown (extend by) len h ks e = by-test (λ o. shown o ≡ []) (ltb (h .pending + by) minSize) _ _ (λ q. refl) (λ q. refl)
-accepted-shown list len h ks e = apart refl e
-accepted-shown room len h ks e = refl
+accepted-shown (change c) len h ks e = renews-shown h (accepted (change c) len h ks) (change-renews len h ks c)
+accepted-shown (report Report.list) len h ks e = apart refl e
+accepted-shown (report Report.room) len h ks e = refl
 
 call-shown : (c : Call) (h : Heap) (m : List ℕ) → lists c ≡ false → shown (outcome c h m) ≡ []
 unfolding outcome decided shown

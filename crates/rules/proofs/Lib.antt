@@ -30,7 +30,8 @@ pub mod Calls
 pub mod SoundWords
 pub mod HoldWords
 pub mod TestWords
--- demand 1: refusals; what stays; the numbers of answers
+-- demand 1: what every change comes to; refusals; what stays; the numbers of answers
+pub mod Renews
 pub mod Passes
 pub mod Refused
 pub mod Unaltered

@@ -18,7 +18,8 @@ use Rattle.rules.specs.Tests.{any}
 use Rattle.rules.specs.Holes.{hole}
 use Rattle.rules.specs.Sound.{soundNumbers, soundHoles, sound, holes}
 use Rattle.rules.specs.Allocate.{rounded, candidate, Found, nothing, found, find}
-use Rattle.rules.specs.Calls.{opening, allocate, free, extend, list, room, Outcome, refused, told, done, taken, given, gathered, grown, extended, accepted}
+use Rattle.rules.specs.Changes.{Change}
+use Rattle.rules.specs.Calls.{opening, change, report, list, Outcome, refused, told, done, taken, given, gathered, grown, extended, accepted}
 use Rattle.rules.specs.Refusals.{refusal3, refusal4, refusal6, refusal8, refusal9, Test, test, openedTests, tests, unless}
 use Rattle.rules.specs.Outcome.{decided, outcome}
 use Rattle.rules.specs.InWords.{Rounds, RoomAt, NoLayout, NoSpan}
@@ -117,13 +118,13 @@ refusals-exactly (opening base named) h m f =
     decides (refusalsOf ours (opening base named) h m) [] (tests (opening base named) (length m) h (holes h m)) _
     (refl, means-last (means-not (means-eq (h .bottom .0) 0)), (refl, no-start (length m) base named, tt))
     (λ p. done-passes _ _ _)
-refusals-exactly (allocate s align) h m f =
+refusals-exactly (change (Change.allocate s align)) h m f =
     opened-decides h m (row BadLayout (NoLayout s align) ∷ []) (row (NoRoom (length (holes h m))) _ ∷ [])
     (test BadLayout (refusal6 s align) ∷ []) _ (refl, no-layout s align (f .1), tt)
     (λ e p.
     room-decides h m s align (find (rounded s) align (holes h m))
     (layout-passed s align (f .1) (p .0) .power) e refl)
-refusals-exactly (free x s align) h m f =
+refusals-exactly (change (Change.free x s align)) h m f =
     opened-decides h m
     (row BadLayout (NoLayout s align) ∷ row BadSpan ((r : ℕ) × Rounds s r × NoSpan h (holes h m) (x .0) r align) ∷ []) []
     (test BadLayout (refusal6 s align) ∷ test BadSpan (refusal8 h (holes h m) (hole x (rounded s)) align) ∷ []) _ (
@@ -132,10 +133,9 @@ refusals-exactly (free x s align) h m f =
       (refl, means-rounds (λ r. NoSpan h (holes h m) (x .0) r align) s (no-span x (rounded s) h (holes h m) align), tt),
     )
     (λ e p. done-passes _ _ _)
-refusals-exactly (extend by) h m f =
+refusals-exactly (change (Change.extend by)) h m f =
     opened-decides h m (row PastArena (h .base .0 + h .len < h .top .0 + h .pending + by) ∷ []) []
     (test PastArena (refusal9 by h) ∷ []) _
     (refl, means-last (means-lt (h .base .0 + h .len) (h .top .0 + h .pending + by)), tt)
     (λ e p. extended-passes by h (holes h m))
-refusals-exactly list h m f = opened-decides h m [] [] [] _ tt (λ e p. told-passes _ _)
-refusals-exactly room h m f = opened-decides h m [] [] [] _ tt (λ e p. told-passes _ _)
+refusals-exactly (report r) h m f = opened-decides h m [] [] [] _ tt (λ e p. told-passes _ _)

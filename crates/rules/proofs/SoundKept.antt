@@ -17,8 +17,9 @@ use Rattle.rules.specs.Holes.{hole, firstOf}
 use Rattle.rules.specs.Sound.{soundNumbers, soundHoles, holes}
 use Rattle.rules.specs.Allocate.{rounded, Found, nothing, found, find, split}
 use Rattle.rules.specs.Free.{freed}
-use Rattle.rules.specs.Calls.{Call, opening, allocate, free, extend, list, room, Outcome, refused, told, done, opened, taken, given, grown, gathered, extended, accepted}
-use Rattle.rules.specs.Refusals.{refusal8, Test, openedTests, tests}
+use Rattle.rules.specs.Changes.{Change}
+use Rattle.rules.specs.Calls.{Call, opening, change, report, Outcome, refused, told, done, opened, taken, given, grown, gathered, extended, accepted}
+use Rattle.rules.specs.Refusals.{refusal8, Test, openedTests, changeTests, tests}
 use Rattle.rules.specs.Outcome.{decided, outcome}
 use Rattle.rules.specs.Runs.{Fits}
 use Rattle.rules.specs.Behaviour.{ours}
@@ -27,7 +28,6 @@ use Rattle.rules.specs.Inner.{Fair}
 use Rattle.rules.proofs.Cases.{by-test, or-left}
 use Rattle.rules.proofs.Layouts.{rounded-multiple, rounded-least, layout-passed}
 use Rattle.rules.proofs.Walk.{sound-fair, sound-count}
-use Rattle.rules.proofs.Decide.{rest}
 use Rattle.rules.proofs.SoundWords.{fair-words}
 use Rattle.rules.proofs.AllocateKept.{allocate-kept}
 use Rattle.rules.proofs.FreeKept.{renewed-fair, free-sound, gather-fair, gather-sound, grow-fair, grow-sound}
@@ -126,18 +126,17 @@ accepted-keeps (opening base named) len h ks f p = (
   },
   unfold opened in refl,
 )
-accepted-keeps (allocate s align) len h ks f p =
-    let (st, q) = passed-opened len h ks (rest (allocate s align) h ks) p in
+accepted-keeps (change (Change.allocate s align)) len h ks f p =
+    let (st, q) = passed-opened len h ks (changeTests (Change.allocate s align) h ks) p in
     taken-keeps len h ks st (rounded s) align (find (rounded s) align ks) (layout-passed s align (f .1) (q .0) .power)
     (rounded-multiple s) (rounded-least s) refl
-accepted-keeps (free x s align) len h ks f p =
-    let (st, q) = passed-opened len h ks (rest (free x s align) h ks) p in
+accepted-keeps (change (Change.free x s align)) len h ks f p =
+    let (st, q) = passed-opened len h ks (changeTests (Change.free x s align) h ks) p in
     given-keeps len h ks st (rounded s) x align (rounded-multiple s) (rounded-least s) (q .1 .0)
-accepted-keeps (extend by) len h ks f p =
-    let (st, q) = passed-opened len h ks (rest (extend by) h ks) p in
+accepted-keeps (change (Change.extend by)) len h ks f p =
+    let (st, q) = passed-opened len h ks (changeTests (Change.extend by) h ks) p in
     extended-keeps len h ks st by (ltb-false (h .base .0 + h .len) (h .top .0 + h .pending + by) (or-left _ _ (q .0)))
-accepted-keeps list len h ks f p = tt
-accepted-keeps room len h ks f p = tt
+accepted-keeps (report r) len h ks f p = tt
 
 pub decided-keeps : (c : Call) (len : ℕ) (h : Heap) (ks : List Hole) → Fits c → Keeps len (decided c len h ks)
 decided-keeps c len h ks f = by-decided (Keeps len) c len h ks (λ r. tt) (accepted-keeps c len h ks f)

@@ -18,7 +18,8 @@ use Rattle.rules.specs.Holes.{hole, end}
 use Rattle.rules.specs.Sound.{arenaEnd, soundNumbers, soundHoles}
 use Rattle.rules.specs.Allocate.{rounded}
 use Rattle.rules.specs.Free.{overlaps, eight, eightToHole}
-use Rattle.rules.specs.Calls.{Call, opening, allocate, free, extend, list, room, onlyHole, Outcome, refused}
+use Rattle.rules.specs.Changes.{Change}
+use Rattle.rules.specs.Calls.{Call, opening, change, report, onlyHole, Outcome, refused}
 
 -- ---- the table: a refusal is given exactly if one of its conditions holds
 
@@ -100,16 +101,18 @@ openedTests len h ks =
     ∷ test NotSound (refusal5Holes h ks)
     ∷ []
 
--- open tests 2, then 1; the rest test in rising order. 7 comes of the walk itself (`taken`)
+-- 6, 8 and 9: a change, behind those. 7 comes of the walk itself (`taken`)
+abbrev pub changeTests : Change → Heap → List Hole → List Test
+changeTests (Change.allocate s align) h ks = test BadLayout (refusal6 s align) ∷ []
+changeTests (Change.free a s align) h ks =
+    test BadLayout (refusal6 s align) ∷ test BadSpan (refusal8 h ks (hole a (rounded s)) align) ∷ []
+changeTests (Change.extend by) h ks = test PastArena (refusal9 by h) ∷ []
+
+-- open tests 2, then 1; the rest test in rising order
 unfoldable pub tests : Call → ℕ → Heap → List Hole → List Test
 tests (opening base named) len h ks = test Opened (refusal2 h) ∷ test BadOpening (refusal1 len base named) ∷ []
-tests (allocate s align) len h ks = openedTests len h ks ++ (test BadLayout (refusal6 s align) ∷ [])
-tests (free a s align) len h ks =
-    openedTests len h ks
-    ++ (test BadLayout (refusal6 s align) ∷ test BadSpan (refusal8 h ks (hole a (rounded s)) align) ∷ [])
-tests (extend by) len h ks = openedTests len h ks ++ (test PastArena (refusal9 by h) ∷ [])
-tests list len h ks = openedTests len h ks
-tests room len h ks = openedTests len h ks
+tests (change c) len h ks = openedTests len h ks ++ changeTests c h ks
+tests (report r) len h ks = openedTests len h ks
 
 -- the first test that holds refuses; else the outcome
 unfoldable pub unless : List Test → Outcome → Outcome
