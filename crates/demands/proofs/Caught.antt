@@ -1,7 +1,7 @@
 -- What holds of each call of a behaviour that meets the statements: a refusal comes of no other outcome, the tests are made, and a grant
 -- lies where demand 2 says. Assumes nothing.
 use mathlib.Core.Path.{_≡_, sym, ap, subst, _∙_}
-use mathlib.Core.List.{List, [], _∷_, _++_}
+use mathlib.Core.List.{List, _∷_, _++_}
 use Prim.Native.Nat.{ℕ, _+_, _-_, _≤_}
 use native.Mathlib.Omega.{arith}
 use lib.ListN.{length}
@@ -23,8 +23,7 @@ use Rattle.rules.specs.Behaviour.{Behaviour, ours}
 use Rattle.rules.specs.Statements.{Granted, Statements, refusalsOf}
 use Rattle.demands.specs.Frauds.{Grant, UsedHole}
 use Rattle.rules.proofs.Cases.{by-eq}
-use Rattle.rules.proofs.Renews.{Plain, Renews, change-renews}
-use Rattle.rules.proofs.Passes.{by-decided}
+use Rattle.rules.proofs.Passes.{by-decided, Plain, by-change}
 use Rattle.rules.proofs.TestWords.{no-layout}
 use Rattle.rules.proofs.Statements.{statements}
 use Rattle.demands.proofs.OneList.{one-place}
@@ -40,15 +39,10 @@ Accepts (refused r) = Unit {0}
 Accepts (told a ks) = Plain a
 Accepts (done a h ks) = Plain a
 
-renews-accepts : (h : Heap) (o : Outcome) → Renews h o → Accepts o
-renews-accepts h (refused r) e = tt
-renews-accepts h (told a ks) e = absurd e
-renews-accepts h (done a h′ ks) e = e .1
-
 accepted-accepts : (c : Call) (len : ℕ) (h : Heap) (ks : List Hole) → Accepts (accepted c len h ks)
 unfolding accepted
 accepted-accepts (opening base named) len h ks = λ r e. let z : _≡_ {A = ℕ} 0 1 = cc in omega arith
-accepted-accepts (change c) len h ks = renews-accepts h (accepted (change c) len h ks) (change-renews len h ks c)
+accepted-accepts (change c) len h ks = by-change Accepts h ks (λ r e. tt) (λ a h′ js e p. p) c len
 accepted-accepts (report Report.list) len h ks = λ r e. let z : _≡_ {A = ℕ} 0 1 = cc in omega arith
 accepted-accepts (report Report.room) len h ks = λ r e. let z : _≡_ {A = ℕ} 0 1 = cc in omega arith
 

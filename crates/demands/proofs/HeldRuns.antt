@@ -25,8 +25,7 @@ use Rattle.rules.proofs.Layouts.{rounded-least}
 use Rattle.rules.proofs.SoundWords.{rounded-rounds}
 use Rattle.rules.proofs.TestWords.{means-fails, no-span}
 use Rattle.rules.proofs.Good.{sound-decided, valid-passes}
-use Rattle.rules.proofs.Renews.{Renews, change-renews}
-use Rattle.rules.proofs.Passes.{Passes, by-decided}
+use Rattle.rules.proofs.Passes.{Passes, by-decided, by-change}
 use Rattle.rules.proofs.SoundKept.{sound-kept}
 use Rattle.rules.proofs.MemoryWords.{memory}
 use Rattle.rules.proofs.Unaltered.{refusals-keep, tells-only}
@@ -122,16 +121,11 @@ Based h (told a ks) = Unit {0}
 Based h (done a h′ ks) = h′ .base ≡ h .base
 
 module _ (h : Heap) (ks : List Hole) where
-  renews-based : (o : Outcome) → Renews h o → Based h o
-  renews-based (refused r) e = tt
-  renews-based (told a js) e = tt
-  renews-based (done a h′ js) e = e .0
-
   accepted-based : (c : Call) (len : ℕ) → (h .bottom .0 ≡ 0 → ⊥) → Passes (tests c len h ks) → Based h (accepted c len h ks)
   unfolding tests accepted
   accepted-based (opening base named) len n p =
       absurd (n (eqb-true (h .bottom .0) 0 (not-false (same (h .bottom) (addr 0)) (or-left _ _ (p .0)))))
-  accepted-based (change c) len n p = renews-based (accepted (change c) len h ks) (change-renews len h ks c)
+  accepted-based (change c) len n p = by-change (Based h) h ks (λ r e. tt) (λ a h′ js e p. e) c len
   accepted-based (report r) len n p = tt
 
   decided-based : (c : Call) (len : ℕ) → (h .bottom .0 ≡ 0 → ⊥) → Based h (decided c len h ks)

@@ -2,7 +2,7 @@
 -- unopened or sound. Assumes nothing.
 use mathlib.Core.Path.{_≡_, refl, sym, _∙_}
 use mathlib.Core.Bool.{Bool, false, cond}
-use mathlib.Core.List.{List, [], _∷_, _++_, List·Memᴰ, List·Memᴰ·head, List·Memᴰ·tail}
+use mathlib.Core.List.{List, [], _∷_, List·Memᴰ, List·Memᴰ·head, List·Memᴰ·tail}
 use mathlib.Core.Logic.{_⊎_, inl, inr}
 use Prim.Native.Nat.{ℕ, suc, _+_, _-_, _≤_, _<_}
 use native.Mathlib.Omega.{arith}
@@ -31,7 +31,7 @@ use Rattle.rules.proofs.Lists.{SameHeads, frame}
 use Rattle.rules.proofs.Decide.{unless-3, unless-4, rest, Opens, decided-later}
 use Rattle.rules.proofs.SoundWords.{fair-words}
 use Rattle.rules.proofs.Good.{sound-decided}
-use Rattle.rules.proofs.Renews.{Renews, change-renews}
+use Rattle.rules.proofs.Passes.{by-change}
 use Rattle.rules.proofs.SoundKept.{Keeps, decided-keeps, outcome-keeps}
 use Rattle.rules.proofs.MemoryWords.{stands-read}
 
@@ -208,11 +208,6 @@ unless-spare [] o s n = n
 unless-spare (t ∷ ts) o s n =
     by-test NoFive (any (t .«exactly-if»)) (refused (t .gives)) (unless ts o) (λ e. s .0) (λ e. unless-spare ts o (s .1) n)
 
-renews-spare : (h : Heap) (o : Outcome) → Renews h o → NoFive o
-renews-spare h (refused r) e = e
-renews-spare h (told a ks) e = tt
-renews-spare h (done a h′ ks) e = tt
-
 change-spare : (c : Change) (h : Heap) (ks : List Hole) → Spare (changeTests c h ks)
 unfolding refusalNumbers
 change-spare (Change.allocate s align) h ks = (refl, tt)
@@ -224,7 +219,7 @@ rest-spare : (c : Call) (n : ℕ) (h : Heap) (ks : List Hole) → NoFive (unless
 unfolding unless accepted
 rest-spare (opening base named) n h ks = tt
 rest-spare (change c) n h ks =
-    unless-spare (changeTests c h ks) _ (change-spare c h ks) (renews-spare h (accepted (change c) n h ks) (change-renews n h ks c))
+    unless-spare (changeTests c h ks) _ (change-spare c h ks) (by-change NoFive h ks (λ r e. e) (λ a h′ js e p. tt) c n)
 rest-spare (report r) n h ks = tt
 
 later-spare : (c : Call) (n : ℕ) (b : Box) → Opens c ≡ false → Whole b → NoFive (comesTo c n b)

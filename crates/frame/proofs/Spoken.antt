@@ -21,7 +21,7 @@ use Rattle.rules.specs.Answers.{refusalNumbers, answerNumbers}
 use Rattle.rules.specs.Outcome.{decided, outcome, leaves, after, Rows, over, inRows, leavesRows}
 use Rattle.rules.proofs.Cases.{by-test, apart, or-left}
 use Rattle.rules.proofs.Walk.{sound-fair, sound-count}
-use Rattle.rules.proofs.Renews.{Renews, change-renews}
+use Rattle.rules.proofs.Passes.{by-change}
 use Rattle.frame.specs.Wire.{numbersLine, holeLines, spoken}
 
 -- the holes that an outcome prints
@@ -60,16 +60,10 @@ lists (change c) = false
 lists (report Report.list) = true
 lists (report Report.room) = false
 
-renews-shown : (h : Heap) (o : Outcome) → Renews h o → shown o ≡ []
-unfolding shown
-renews-shown h (refused r) e = refl
-renews-shown h (told a ks) e = absurd e
-renews-shown h (done a h′ ks) e = refl
-
 accepted-shown : (c : Call) (len : ℕ) (h : Heap) (ks : List Hole) → lists c ≡ false → shown (accepted c len h ks) ≡ []
 unfolding accepted shown
 accepted-shown (opening base named) len h ks e = refl
-accepted-shown (change c) len h ks e = renews-shown h (accepted (change c) len h ks) (change-renews len h ks c)
+accepted-shown (change c) len h ks e = by-change (λ o. shown o ≡ []) h ks (λ r q. refl) (λ a h′ js q p. refl) c len
 accepted-shown (report Report.list) len h ks e = apart refl e
 accepted-shown (report Report.room) len h ks e = refl
 

@@ -30,8 +30,7 @@ pub mod Calls
 pub mod SoundWords
 pub mod HoldWords
 pub mod TestWords
--- demand 1: what every change comes to; refusals; what stays; the numbers of answers
-pub mod Renews
+-- demand 1: what comes of a call; refusals; what stays; the numbers of answers
 pub mod Passes
 pub mod Refused
 pub mod Unaltered

@@ -1,6 +1,6 @@
 -- Every call that changes the heap leaves it sound, with as many holes at most as its size has room for. Assumes nothing.
 use mathlib.Core.Path.{_≡_, refl}
-use mathlib.Core.Bool.{true, false}
+use mathlib.Core.Bool.{true}
 use mathlib.Core.List.{List, _++_}
 use Prim.Native.Nat.{ℕ, _+_, _-_, _%_, _≤_}
 use native.Mathlib.Omega.{arith}
@@ -12,14 +12,13 @@ use Rattle.rules.specs.declared.Hole.{Hole}
 use Rattle.rules.specs.declared.Heap.{Heap}
 use Rattle.rules.specs.Fixed.{minSize, grain}
 use Rattle.rules.specs.Round.{Power, downTo}
-use Rattle.rules.specs.Tests.{any}
 use Rattle.rules.specs.Holes.{hole, firstOf}
 use Rattle.rules.specs.Sound.{soundNumbers, soundHoles, holes}
 use Rattle.rules.specs.Allocate.{rounded, Found, nothing, found, find, split}
 use Rattle.rules.specs.Free.{freed}
 use Rattle.rules.specs.Changes.{Change}
-use Rattle.rules.specs.Calls.{Call, opening, change, report, Outcome, refused, told, done, opened, taken, given, grown, gathered, extended, accepted}
-use Rattle.rules.specs.Refusals.{refusal8, Test, openedTests, changeTests, tests}
+use Rattle.rules.specs.Calls.{Call, opening, change, report, Outcome, refused, told, done, renewed, opened, taken, given, grown, gathered, extended, accepted}
+use Rattle.rules.specs.Refusals.{Test, openedTests, changeTests, tests}
 use Rattle.rules.specs.Outcome.{decided, outcome}
 use Rattle.rules.specs.Runs.{Fits}
 use Rattle.rules.specs.Behaviour.{ours}
@@ -61,81 +60,50 @@ passed-opened len h ks ts (open′, (lent, (numbers, (its, behind)))) = (
 -- ---- call by call
 
 module _ (len : ℕ) (h : Heap) (ks : List Hole) (st : Stands len h ks) where
-  given-keeps : (s : ℕ) (x : Addr) (align : ℕ) → s % grain ≡ 0 → minSize ≤ s → any (refusal8 h ks (hole x s) align) ≡ false
-      → Keeps len (given s x h ks)
-  unfolding given
-  given-keeps s x align s8 s16 pass = (
-    record {
-      fair = renewed-fair h (freed (hole x s) ks) (h .used - s) (st .fair);
-      sound = free-sound h (st .fair) ks (hole x s) align pass (st .sound) s8 s16;
-      arena = st .arena;
-    },
-    refl,
-  )
-
-  extended-keeps : (by : ℕ) → h .top .0 + h .pending + by ≤ h .base .0 + h .len → Keeps len (extended by h ks)
-  unfolding extended gathered grown
-  extended-keeps by l =
-      let f = st .fair in
-      let sum = h .pending + by in
-      let s = downTo grain sum in
-      by-test (Keeps len) (ltb sum minSize) _ _
-      (λ e.
-      let p : sum ≤ 15 = omega (arith, ltb-true sum minSize e) in
-      let fits : h .top .0 + sum ≤ h .base .0 + h .len = omega arith in (
-        record {
-          fair = gather-fair h f ks (st .sound) sum p fits;
-          sound = gather-sound h f ks (st .sound) sum p fits;
-          arena = st .arena;
-        },
-        refl,
-      ))
-      (λ e.
-      let p : sum % grain ≤ 15 = omega arith in
-      let s8 : s % grain ≡ 0 = omega arith in
-      let s16 : minSize ≤ s = omega (arith, ltb-false sum minSize e) in
-      let fits : h .top .0 + s + sum % grain ≤ h .base .0 + h .len = omega arith in (
-        record {
-          fair = grow-fair h f ks (st .sound) (sum % grain) p s s8 s16 fits;
-          sound = grow-sound h f ks (st .sound) (sum % grain) p s s8 s16 fits;
-          arena = st .arena;
-        },
-        refl,
-      ))
+  renewed-keeps : {js : List Hole} {top : Addr} {pending used : ℕ}
+      → let h′ = renewed h js top pending used in Fair h′ → soundHoles h′ js ≡ true → Stands len h′ js × (h′ .first ≡ firstOf (h′ .base) js)
+  renewed-keeps f e = (record { fair = f; sound = e; arena = st .arena }, refl)
 
   taken-keeps : (s align : ℕ) (f : Found) → Power align → s % grain ≡ 0 → minSize ≤ s → find s align ks ≡ f
       → Keeps len (taken s align h ks f)
   unfolding taken
   taken-keeps s align nothing p s8 s16 e = tt
-  taken-keeps s align (found front k back) p s8 s16 e = (
-    record {
-      fair = renewed-fair h (front ++ (split s align k ++ back)) (h .used + s) (st .fair);
-      sound = allocate-kept h s align ks front back k (st .fair) p s8 s16 (st .sound) e;
-      arena = st .arena;
-    },
-    refl,
-  )
+  taken-keeps s align (found front k back) p s8 s16 e =
+      renewed-keeps (renewed-fair h (front ++ (split s align k ++ back)) (h .used + s) (st .fair))
+      (allocate-kept h s align ks front back k (st .fair) p s8 s16 (st .sound) e)
+
+  change-keeps : (c : Change) → Fits (change c) → Passes (changeTests c h ks) → Keeps len (accepted (change c) len h ks)
+  unfolding accepted given extended gathered grown
+  change-keeps (Change.allocate s align) f p =
+      taken-keeps (rounded s) align (find (rounded s) align ks) (layout-passed s align (f .1) (p .0) .power) (rounded-multiple s)
+      (rounded-least s) refl
+  change-keeps (Change.free x s align) f p =
+      let r = rounded s in
+      renewed-keeps (renewed-fair h (freed (hole x r) ks) (h .used - r) (st .fair))
+      (free-sound h (st .fair) ks (hole x r) align (p .1 .0) (st .sound) (rounded-multiple s) (rounded-least s))
+  change-keeps (Change.extend by) f p =
+      let l = ltb-false (h .base .0 + h .len) (h .top .0 + h .pending + by) (or-left _ _ (p .0)) in
+      let sum = h .pending + by in
+      let s = downTo grain sum in
+      by-test (Keeps len) (ltb sum minSize) _ _
+      (λ e.
+      let few : sum ≤ 15 = omega (arith, ltb-true sum minSize e) in
+      let fits : h .top .0 + sum ≤ h .base .0 + h .len = omega arith in
+      renewed-keeps (gather-fair h (st .fair) ks (st .sound) sum few fits) (gather-sound h (st .fair) ks (st .sound) sum few fits))
+      (λ e.
+      let few : sum % grain ≤ 15 = omega arith in
+      let s8 : s % grain ≡ 0 = omega arith in
+      let s16 : minSize ≤ s = omega (arith, ltb-false sum minSize e) in
+      let fits : h .top .0 + s + sum % grain ≤ h .base .0 + h .len = omega arith in
+      renewed-keeps (grow-fair h (st .fair) ks (st .sound) (sum % grain) few s s8 s16 fits)
+      (grow-sound h (st .fair) ks (st .sound) (sum % grain) few s s8 s16 fits))
 
 accepted-keeps : (c : Call) (len : ℕ) (h : Heap) (ks : List Hole) → Fits c → Passes (tests c len h ks) → Keeps len (accepted c len h ks)
-unfolding tests accepted
-accepted-keeps (opening base named) len h ks f p = (
-  record {
-    fair = opened-fair len base named (p .1 .0);
-    sound = opened-sound len base named (p .1 .0);
-    arena = unfold opened in refl;
-  },
-  unfold opened in refl,
-)
-accepted-keeps (change (Change.allocate s align)) len h ks f p =
-    let (st, q) = passed-opened len h ks (changeTests (Change.allocate s align) h ks) p in
-    taken-keeps len h ks st (rounded s) align (find (rounded s) align ks) (layout-passed s align (f .1) (q .0) .power)
-    (rounded-multiple s) (rounded-least s) refl
-accepted-keeps (change (Change.free x s align)) len h ks f p =
-    let (st, q) = passed-opened len h ks (changeTests (Change.free x s align) h ks) p in
-    given-keeps len h ks st (rounded s) x align (rounded-multiple s) (rounded-least s) (q .1 .0)
-accepted-keeps (change (Change.extend by)) len h ks f p =
-    let (st, q) = passed-opened len h ks (changeTests (Change.extend by) h ks) p in
-    extended-keeps len h ks st by (ltb-false (h .base .0 + h .len) (h .top .0 + h .pending + by) (or-left _ _ (q .0)))
+unfolding tests accepted opened
+accepted-keeps (opening base named) len h ks f p =
+    (record { fair = opened-fair len base named (p .1 .0); sound = opened-sound len base named (p .1 .0); arena = refl }, refl)
+accepted-keeps (change c) len h ks f p =
+    let (st, q) = passed-opened len h ks (changeTests c h ks) p in change-keeps len h ks st c f q
 accepted-keeps (report r) len h ks f p = tt
 
 pub decided-keeps : (c : Call) (len : ℕ) (h : Heap) (ks : List Hole) → Fits c → Keeps len (decided c len h ks)

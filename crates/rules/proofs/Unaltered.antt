@@ -11,13 +11,12 @@ use Rattle.rules.specs.declared.Done.{Done}
 use Rattle.rules.specs.declared.Answer.{Answer}
 use Rattle.rules.specs.Sound.{holes}
 use Rattle.rules.specs.Changes.{Report}
-use Rattle.rules.specs.Calls.{Call, opening, change, report, list, Outcome, refused, told, done, accepted}
+use Rattle.rules.specs.Calls.{Call, opening, change, report, list, Outcome, accepted}
 use Rattle.rules.specs.Outcome.{outcome, leaves, after, Rows, over, inRows, leavesRows, rowsAfter}
 use Rattle.rules.specs.Behaviour.{ours}
 use Rattle.rules.specs.Statements.{RefusalsKeep, TellsOnly, OtherRows, NothingLoose}
 use Rattle.rules.proofs.Calls.{answer-refused, answer-told, rows-refused}
-use Rattle.rules.proofs.Renews.{Renews, change-renews}
-use Rattle.rules.proofs.Passes.{by-decided}
+use Rattle.rules.proofs.Passes.{by-decided, by-change}
 
 pub refusals-keep : RefusalsKeep ours
 unfolding after leaves
@@ -45,16 +44,10 @@ module _ (r : Rows) where
   abbrev Stays : Outcome → Type 0
   Stays o = leavesRows r o ≡ r
 
-  renews-stays : (h : Heap) (o : Outcome) → Renews h o → Stays o
-  unfolding leavesRows
-  renews-stays h (refused x) e = refl
-  renews-stays h (told a ks) e = absurd e
-  renews-stays h (done a h′ ks) e = refl
-
   accepted-stays : (c : Call) (len : ℕ) (h : Heap) (ks : List Hole) → (c ≡ list → ⊥) → Stays (accepted c len h ks)
   unfolding accepted leavesRows inRows
   accepted-stays (opening base named) len h ks n = refl
-  accepted-stays (change c) len h ks n = renews-stays h (accepted (change c) len h ks) (change-renews len h ks c)
+  accepted-stays (change c) len h ks n = by-change Stays h ks (λ x e. refl) (λ a h′ js b p. refl) c len
   accepted-stays (report Report.list) len h ks n = absurd (n refl)
   accepted-stays (report Report.room) len h ks n =
       let k = min (length (r .addrs)) (length (r .sizes)) in

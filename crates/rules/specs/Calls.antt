@@ -27,7 +27,7 @@ pub data Call : Type 0 where
   change : Change → Call
   report : Report → Call
 
--- each by its name
+-- the changes and the reports, each by its name
 abbrev pub allocate : ℕ → ℕ → Call
 allocate s align = change (Change.allocate s align)
 

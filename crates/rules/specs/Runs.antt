@@ -15,7 +15,7 @@ use Rattle.rules.specs.Kinds.{addr, same, number}
 use Rattle.rules.specs.Sound.{unopened, holes}
 use Rattle.rules.specs.Readers.{bottomOf, topOf, sizeOf, usedOf, freeOf}
 use Rattle.rules.specs.Changes.{Change}
-use Rattle.rules.specs.Calls.{Call, opening, change, report, free, Outcome, refused, told, done}
+use Rattle.rules.specs.Calls.{Call, opening, change, report, Outcome, refused, told, done}
 use Rattle.rules.specs.Answers.{answerNumbers}
 use Rattle.rules.specs.Outcome.{decided, after, Rows, leavesRows, rowsAfter}
 
@@ -152,16 +152,16 @@ ends (a ∷ asks) b = ends asks (nextBox a b)
 -- ---- the premise on frees
 
 -- an accepted free names a block then held, with its own size and alignment
-abbrev pub HonestCall : Call → ℕ → Box → Type 0
-HonestCall (opening base named) n b = Unit {0}
-HonestCall (change (Change.allocate s align)) n b = Unit {0}
-HonestCall (change (Change.free x s align)) n b =
-    (a : Answer) (h : Heap) (ks : List Hole) → comesTo (free x s align) n b ≡ done a h ks → List·Memᴰ (block x s align) (b .held)
-HonestCall (change (Change.extend by)) n b = Unit {0}
-HonestCall (report r) n b = Unit {0}
+abbrev pub HonestCall : Call → Outcome → Box → Type 0
+HonestCall (opening base named) o b = Unit {0}
+HonestCall (change (Change.allocate s align)) o b = Unit {0}
+HonestCall (change (Change.free x s align)) o b =
+    (a : Answer) (h : Heap) (ks : List Hole) → o ≡ done a h ks → List·Memᴰ (block x s align) (b .held)
+HonestCall (change (Change.extend by)) o b = Unit {0}
+HonestCall (report r) o b = Unit {0}
 
 abbrev pub HonestAsk : Ask → Box → Type 0
-HonestAsk (calls c r n) b = HonestCall c n b
+HonestAsk (calls c r n) b = HonestCall c (comesTo c n b) b
 HonestAsk (reads x) b = Unit {0}
 
 abbrev pub Honest : List Ask → Box → Type 0

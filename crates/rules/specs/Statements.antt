@@ -76,6 +76,7 @@ openedRows b h m =
     ∷ row NotSound (Sound h (b .holes h m) → ⊥)
     ∷ []
 
+-- a change, behind those
 abbrev pub changeRows : Behaviour → Change → Heap → List ℕ → List Row
 changeRows b (Change.allocate s align) h m =
     row BadLayout (NoLayout s align)
