@@ -1,11 +1,10 @@
 -- What is printed of a call: its answer's line and, of a list, the lines of its holes. Assumes nothing.
 use mathlib.Core.Path.{_≡_, refl, sym, _∙_}
-use mathlib.Core.Bool.{Bool, true, false, not}
+use mathlib.Core.Bool.{Bool, true, false}
 use mathlib.Core.List.{List, [], _∷_, _++_, append-nil}
-use Prim.Native.Nat.{ℕ, _+_, _≤_}
+use Prim.Native.Nat.{ℕ, _≤_}
 use native.Mathlib.Omega.{arith}
 use lib.ListN.{length}
-use lib.Dec.{ltb}
 use lib.Seq.{take-nil}
 use borrow.Author.Tests.{not-false}
 use Rattle.rules.specs.declared.Hole.{Hole}
@@ -13,16 +12,16 @@ use Rattle.rules.specs.declared.Heap.{Heap}
 use Rattle.rules.specs.declared.Refusal.{Refusal}
 use Rattle.rules.specs.declared.Refusal.the-variants as no
 use Rattle.rules.specs.declared.Answer.the-variants.{Listed}
-use Rattle.rules.specs.Fixed.{minSize}
 use Rattle.rules.specs.Tests.{any}
-use Rattle.rules.specs.Sound.{sound, soundNumbers, soundHoles, holes}
-use Rattle.rules.specs.Allocate.{Found, nothing, found, find, rounded}
-use Rattle.rules.specs.Calls.{Call, opening, allocate, free, extend, list, room, Outcome, refused, told, done, taken, extended, accepted, given, grown, gathered}
+use Rattle.rules.specs.Sound.{soundNumbers, soundHoles, holes}
+use Rattle.rules.specs.Changes.{Report}
+use Rattle.rules.specs.Calls.{Call, opening, change, report, list, room, Outcome, refused, told, done, accepted}
 use Rattle.rules.specs.Refusals.{Test, tests, unless}
 use Rattle.rules.specs.Answers.{refusalNumbers, answerNumbers}
 use Rattle.rules.specs.Outcome.{decided, outcome, leaves, after, Rows, over, inRows, leavesRows}
-use Rattle.rules.proofs.Cases.{by-test, apart, and-left, and-right, or-left}
+use Rattle.rules.proofs.Cases.{by-test, apart, or-left}
 use Rattle.rules.proofs.Walk.{sound-fair, sound-count}
+use Rattle.rules.proofs.Passes.{by-change}
 use Rattle.frame.specs.Wire.{numbersLine, holeLines, spoken}
 
 -- the holes that an outcome prints
@@ -57,25 +56,16 @@ by-tests P (t ∷ ts) o f g =
 -- list prints more
 abbrev pub lists : Call → Bool
 lists (opening base named) = false
-lists (allocate s align) = false
-lists (free a s align) = false
-lists (extend by) = false
-lists list = true
-lists room = false
-
-found-shown : (s align : ℕ) (h : Heap) (ks : List Hole) (f : Found) → shown (taken s align h ks f) ≡ []
-unfolding taken shown
-found-shown s align h ks nothing = refl
-found-shown s align h ks (found front k back) = refl
+lists (change c) = false
+lists (report Report.list) = true
+lists (report Report.room) = false
 
 accepted-shown : (c : Call) (len : ℕ) (h : Heap) (ks : List Hole) → lists c ≡ false → shown (accepted c len h ks) ≡ []
-unfolding accepted shown extended given grown gathered
+unfolding accepted shown
 accepted-shown (opening base named) len h ks e = refl
-accepted-shown (allocate s align) len h ks e = found-shown (rounded s) align h ks (find (rounded s) align ks)
-accepted-shown (free a s align) len h ks e = refl
-accepted-shown (extend by) len h ks e = by-test (λ o. shown o ≡ []) (ltb (h .pending + by) minSize) _ _ (λ q. refl) (λ q. refl)
-accepted-shown list len h ks e = apart refl e
-accepted-shown room len h ks e = refl
+accepted-shown (change c) len h ks e = by-change (λ o. shown o ≡ []) h ks (λ r q. refl) (λ a h′ js q p. refl) c len
+accepted-shown (report Report.list) len h ks e = apart refl e
+accepted-shown (report Report.room) len h ks e = refl
 
 call-shown : (c : Call) (h : Heap) (m : List ℕ) → lists c ≡ false → shown (outcome c h m) ≡ []
 unfolding outcome decided shown
@@ -117,11 +107,8 @@ refusal-one no.BadSpan = refl
 refusal-one no.PastArena = refl
 
 -- an arena has at most 65,536 bytes, so a sound heap has at most 2,048 holes
-sound-few : (h : Heap) (ks : List Hole) → sound h ks ≡ true → length ks ≤ 2048
-unfolding sound
-sound-few h ks e =
-    let f = sound-fair h (and-left (soundNumbers h) (soundHoles h ks) e) in
-    omega (arith, sound-count h f ks (and-right (soundNumbers h) (soundHoles h ks) e))
+sound-few : (h : Heap) (ks : List Hole) → soundNumbers h ≡ true → soundHoles h ks ≡ true → length ks ≤ 2048
+sound-few h ks n e = let f = sound-fair h n in omega (arith, sound-count h f ks e)
 
 -- the answer has the number of the holes printed, and the rows hold them
 pub record Listing (h : Heap) (m : List ℕ) (o : Outcome) : Type 0 where
@@ -133,14 +120,16 @@ refused-listing : (h : Heap) (m : List ℕ) (r : Refusal) → Listing h m (refus
 unfolding leaves answerNumbers shown leavesRows inRows over
 refused-listing h m r = record { count = refusal-one r; few = omega arith; rows = λ rs. simp take-nil }
 
-told-listing : (h : Heap) (m : List ℕ) (bytes : ℕ) (ks : List Hole) → sound h ks ≡ true
+told-listing : (h : Heap) (m : List ℕ) (bytes : ℕ) (ks : List Hole) → length ks ≤ 2048
     → Listing h m (told (Listed (length ks) bytes) ks)
 unfolding leaves answerNumbers shown leavesRows
-told-listing h m bytes ks e = record { count = refl; few = sound-few h ks e; rows = λ rs. refl }
+told-listing h m bytes ks few = record { count = refl; few = few; rows = λ rs. refl }
 
 pub listing : (h : Heap) (m : List ℕ) → Listing h m (outcome list h m)
 unfolding outcome decided tests accepted
 listing h m =
     let ks = holes h m in
     by-tests (Listing h m) _ _ (refused-listing h m)
-    (λ p. told-listing h m _ ks (not-false (sound h ks) (or-left (not (sound h ks)) false (p .1 .1 .0))))
+    (λ (unopened, (lent, (numbers, (its, behind)))).
+    told-listing h m _ ks
+    (sound-few h ks (not-false (soundNumbers h) (or-left _ _ numbers)) (not-false (soundHoles h ks) (or-left _ _ its))))
