@@ -1,0 +1,26 @@
+-- What is said of a heap that was loaded from seven words is said of the heap that they say. Assumes nothing.
+use mathlib.Core.Path.{_≡_}
+use mathlib.Core.List.{List}
+use Prim.Native.Nat.{ℕ}
+use Rattle.rules.specs.Calls.{Call, list}
+use Rattle.rules.specs.Outcome.{Is, after, Rows, rowsAfter}
+use Rattle.rules.specs.declared.Heap.{Heap}
+use Rattle.rules.specs.declared.Answer.{Answer}
+use Rattle.rules.specs.declared.Done.{Done}
+use Rattle.c_face.specs.Face.{heapOf, wordsOf, Tells, Shows, Lists}
+
+module _ (ws : List ℕ) {h : Heap} (loaded : h ≡ heapOf ws) where
+  -- a report's answer, in words again
+  pub reported : (x : Call) (m : List ℕ) {a : Answer} {two : List ℕ} {r : ℕ} → a ≡ after x h m .answer → Tells a r two
+      → Tells (after x (heapOf ws) m .answer) r two
+  reported x m e t = rw (← loaded, ← e) t
+
+  -- the list's answer and its rows
+  pub listed : (m : List ℕ) (before : Rows) {a : Answer} {left : Rows} {two : List ℕ} {r : ℕ}
+      → (a ≡ after list h m .answer) × (left ≡ rowsAfter list h m before) → Tells a r two → Lists (heapOf ws) m before r two left
+  listed m before e t = (reported list m (e .0) t, rw (← loaded) (e .1))
+
+  -- what a call that may change the heap gave back, in words again
+  pub shown : (x : Call) (m : List ℕ) (d : Done) {m′ hs two : List ℕ} {r : ℕ}
+      → Is (after x h m) d m′ → Tells (d .answer) r two × (hs ≡ wordsOf (d .heap)) → Shows (after x (heapOf ws) m) r hs two m′
+  shown x m d i t = rw (← loaded, ← i .0, ← i .1) (t .0, t .1, i .2)
