@@ -31,7 +31,7 @@ numberAt line i n = value 0 (take n (drop i line))
 
 -- ---- frames: one byte for the call, then numbers of 8 bytes, high byte first; two digits a byte
 
--- the digits of a frame of n numbers, and the index of the number behind them
+-- the digits of a frame: two for the call and sixteen for each of n numbers. Behind them a further number would begin
 abbrev pub frameDigits : ℕ → ℕ
 frameDigits n = 2 + 16 * n
 
@@ -39,7 +39,7 @@ frameDigits n = 2 + 16 * n
 abbrev pub numberOf : List ℕ → ℕ → ℕ
 numberOf line i = numberAt line (frameDigits i) 16
 
--- a call's byte, how many numbers it has, and the frame that they make
+-- a call's byte, how many numbers it has, and the frame that they make, by their index
 pub record Form : Type 0 where
   pub call : ℕ
   pub count : ℕ
@@ -63,7 +63,7 @@ forms =
 abbrev pub mostNumbers : ℕ
 mostNumbers = 3
 
--- the form of a byte; what is no call has no number and makes no frame
+-- the form of a byte; one that is no call has no number and makes no frame
 unfoldable pub formOf : List Form → ℕ → Form
 formOf [] c = form c 0 (λ n. is.Bad)
 formOf (f ∷ fs) c = cond (eqb c (f .call)) f (formOf fs c)

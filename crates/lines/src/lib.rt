@@ -9,13 +9,13 @@ pub use printing::LINE;
 pub use reading::FRAME;
 use rules::Heap;
 
-// The bytes of the arena that the wire program holds. They are the program's own, and no limit of the
-// library's.
+// The bytes of the arena that the wire program holds. The number is the program's own, whatever the
+// library's limit is.
 pub const ARENA: usize = 65_536;
 
 // The most holes of a sound heap on that arena: a hole has at least 16 bytes, and so has what lies
 // between two.
-pub const MOST: usize = (ARENA + 16) / 32;
+const MOST: usize = (ARENA + 16) / 32;
 
 // The bytes of the longest answer: the list's line, and one for each hole.
 pub const LONGEST: usize = LINE * (MOST + 1);

@@ -94,7 +94,7 @@ fn number_of(line: &[u8], i: usize) -> u64
     number(line, CALL + NUMBER * i, NUMBER)
 }
 
-// How many numbers a call has, by its byte. What is no call has none.
+// The table of the calls: how many numbers each has, by its byte. A byte that is no call has none.
 fn count_of(call: u64) -> usize
     ensures { λ r. ⌜ r ≡ formOf forms call .count ⌝ }
 {
@@ -109,23 +109,29 @@ fn count_of(call: u64) -> usize
     }
 }
 
-// The frame that a call's numbers make, by its byte. What is no call makes none.
+// The frame that a call's numbers make, by its byte. A byte that is no call makes none.
 fn made(line: &[u8], call: u64) -> Frame
     requires { ⌜ digits (now line) ≡ true ⌝ }
     ensures { λ r. ⌜ r ≡ formOf forms call .frame (numberOf (now (line .entry))) ⌝ }
 {
-    let a = number_of(line, 0);
-    let b = number_of(line, 1);
-    let c = number_of(line, 2);
+    let first = number_of(line, 0);
+    let second = number_of(line, 1);
+    let third = number_of(line, 2);
     match call {
-        0x01 => Frame::Open { base: a, named: b },
-        0x02 => Frame::Allocate { size: a, align: b },
-        0x03 => Frame::Free {
-            addr: a,
-            size: b,
-            align: c,
+        0x01 => Frame::Open {
+            base: first,
+            named: second,
         },
-        0x04 => Frame::Extend { by: a },
+        0x02 => Frame::Allocate {
+            size: first,
+            align: second,
+        },
+        0x03 => Frame::Free {
+            addr: first,
+            size: second,
+            align: third,
+        },
+        0x04 => Frame::Extend { by: first },
         0x05 => Frame::List,
         0x06 => Frame::Room,
         _ => Frame::Bad,

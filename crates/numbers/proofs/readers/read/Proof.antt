@@ -32,7 +32,7 @@ returns : tie.Need-returns
 returns c =
     let sized = c .before .before in
     let k = sized .before .before in
-    says-own (heap k) _ (passed k) refl refl (sized .fair-size .ensures) refl (rw (sized .fair-size .ensures))
+    says-own (heap k) _ (passed k) refl refl (sized .fair-size .ensures) refl (omega (arith, sized .fair-size .ensures))
 
 returns-2 : tie.Need-returns-2
 returns-2 c = says-none (c .before .before .args .h) (sym (c .before .readable .ensures) ∙ c .if1 .left)
