@@ -19,7 +19,7 @@ use Rattle.rules.specs.declared.Answer.the-variants.{Opening, Listed, Ro
 use Rattle.rules.specs.Fixed.{grain}
 use Rattle.rules.specs.Tests.{any}
 use Rattle.rules.specs.Kinds.{raised}
-use Rattle.rules.specs.Holes.{largest, putHeads}
+use Rattle.rules.specs.Holes.{largest}
 use Rattle.rules.specs.Sound.{size, soundNumbers, soundHoles, holes}
 use Rattle.rules.specs.Allocate.{find}
 use Rattle.rules.specs.Calls.{Call, opening, allocate, free, extend, list, room, Outcome, refused, told, done, onlyHole, opened, taken, accepted}
@@ -38,10 +38,6 @@ module _ (c : Call) (h : Heap) (m : List ℕ) where
   pub is-left : (o : Outcome) {d : Done} {m′ : List ℕ} → outcome c h m ≡ o → Is (leaves h m o) d m′ → Is (after c h m) d m′
   unfolding after
   is-left o e p = rw e p
-
-  pub is-refused : (r : Refusal) {d : Done} → outcome c h m ≡ refused r → d .answer ≡ Refused r → d .heap ≡ h → Is (after c h m) d m
-  unfolding after leaves
-  is-refused r e a k = rw e (a, k, refl)
 
   pub answer-refused : (r : Refusal) → outcome c h m ≡ refused r → after c h m .answer ≡ Refused r
   unfolding after leaves
@@ -146,17 +142,8 @@ module _ (base : Addr) (named : ℕ) (h : Heap) (m : List ℕ) where
   unfolding outcome decided tests unless
   opening-1 z e = rw (eq-eqb (h .bottom .0) 0 z, e)
 
-  opening-on : h .bottom .0 ≡ 0 → any (refusal1 (length m) base named) ≡ false
+  pub opening-on : h .bottom .0 ≡ 0 → any (refusal1 (length m) base named) ≡ false
       → outcome (opening base named) h m
       ≡ done (Opening (raised grain base) (onlyHole base named .size)) (opened (length m) base named) (onlyHole base named ∷ [])
   unfolding outcome decided tests unless accepted
   opening-on z e = rw (eq-eqb (h .bottom .0) 0 z, e)
-
-  -- what is made of the memory, with bottom and size read off the new heap
-  pub is-opened : {d : Done} {m′ : List ℕ} → h .bottom .0 ≡ 0 → any (refusal1 (length m) base named) ≡ false
-      → d .heap ≡ opened (length m) base named → d .answer ≡ Opening (d .heap .bottom) (size (d .heap))
-      → m′ ≡ putHeads base (onlyHole base named ∷ []) m → Is (after (opening base named) h m) d m′
-  unfolding after leaves opened
-  is-opened z e k a p =
-      let s : size (opened (length m) base named) ≡ onlyHole base named .size = omega arith in
-      rw (opening-on z e) (a ∙ rw (k, s), k, p)

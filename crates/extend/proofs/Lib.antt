@@ -1,0 +1,4 @@
+-- The laws that the proofs of this crate share, by subject.
+
+-- an extension
+mod Extending

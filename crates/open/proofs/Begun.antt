@@ -1,0 +1,81 @@
+-- What an opening comes to, by the tests that it makes. Assumes nothing.
+use mathlib.Core.Path.{_≡_, refl, sym, _∙_}
+use mathlib.Core.Bool.{Bool, true, false}
+use mathlib.Core.List.{List, [], _∷_}
+use Prim.Native.Nat.{ℕ, _≤_}
+use native.Mathlib.Omega.{arith}
+use lib.ListN.{length}
+use borrow.Author.Tests.{ne-eqb}
+use Rattle.rules.specs.Fixed.{grain}
+use Rattle.rules.specs.Tests.{any}
+use Rattle.rules.specs.Kinds.{placeOf, raised, none}
+use Rattle.rules.specs.Holes.{firstOf, putHeads}
+use Rattle.rules.specs.Sound.{size}
+use Rattle.rules.specs.Calls.{opening, refused, done, onlyHole, opened}
+use Rattle.rules.specs.Refusals.{refusal1}
+use Rattle.rules.specs.Outcome.{leaves, after}
+use Rattle.rules.specs.declared.Addr.{Addr}
+use Rattle.rules.specs.declared.Heap.{Heap}
+use Rattle.rules.specs.declared.Decided.{Decided}
+use Rattle.rules.specs.declared.Refusal.the-variants.{BadOpening, Opened}
+use Rattle.rules.specs.declared.Answer.the-variants.{Opening}
+use Rattle.rules.specs.Inner.{put, write, nothing, written, refusing, Decides}
+use Rattle.rules.proofs.Calls.{opening-2, opening-1, opening-on}
+use Rattle.rules.proofs.Written.{decides-refused, decides-left}
+use Rattle.open.proofs.Opened.{opens}
+
+-- the new heap's bottom and top lie in this order behind base
+pub opened-rises : (len : ℕ) (base : Addr) (named : ℕ) {h : Heap} → h ≡ opened len base named
+    → (base .0 ≤ h .bottom .0) × (h .bottom .0 ≤ h .top .0)
+unfolding opened
+opened-rises len base named e = rw e (omega arith, omega arith)
+
+-- an accepted opening gives back a heap, bottom and size read off it, and has the head of its one hole written
+abbrev begunWith : Heap → Decided
+begunWith k =
+    record {
+      heap = k;
+      answer = Opening (k .bottom) (size k);
+      heads = record { one = write (k .first) (size k) none; two = nothing };
+    }
+
+-- that head lies in the arena, and is all that the new heap's list has
+begins : (len : ℕ) (base : Addr) (named : ℕ) (h : Heap) (m : List ℕ) {k : Heap}
+    → length m ≡ len → any (refusal1 len base named) ≡ false → k ≡ opened len base named
+    → Decides
+    (leaves h m (done (Opening (raised grain base) (onlyHole base named .size)) (opened len base named) (onlyHole base named ∷ [])))
+    m (begunWith k)
+unfolding leaves opened firstOf put written putHeads
+begins len base named h m lent e k =
+    let o = opens len base named e in
+    let s : size (opened len base named) ≡ onlyHole base named .size = omega arith in
+    let some = ne-eqb (placeOf base (raised grain base) .0) (none .0) (λ z. omega (arith, o .room, o .fits, o .small)) in
+    rw k
+    (record {
+      answer = rw s;
+      heap = refl;
+      heads =
+          record {
+            one = λ n. omega (arith, o .room, o .fits, lent);
+            two = λ n. absurd (n refl);
+            arena = rw (some, s);
+          };
+    })
+
+module _ (base : Addr) (named : ℕ) (h : Heap) (m : List ℕ) where
+  pub begun-2 : (h .bottom .0 ≡ 0 → ⊥) → Decides (after (opening base named) h m) m (refusing h Opened)
+  begun-2 n = decides-left (opening base named) h m (refused Opened) (opening-2 base named h m n) (decides-refused h m Opened)
+
+  -- by what is said of refusal 1
+  module _ (z : h .bottom .0 ≡ 0) {len : ℕ} (lent : length m ≡ len) {b : Bool} (said : b ≡ any (refusal1 len base named)) where
+    pub begun-1 : b ≡ true → Decides (after (opening base named) h m) m (refusing h BadOpening)
+    begun-1 e =
+        decides-left (opening base named) h m (refused BadOpening)
+        (opening-1 base named h m z (rw lent (sym said ∙ e)))
+        (decides-refused h m BadOpening)
+
+    pub begun : {k : Heap} → b ≡ false → k ≡ opened len base named → Decides (after (opening base named) h m) m (begunWith k)
+    begun e k =
+        let no = sym said ∙ e in
+        decides-left (opening base named) h m _ (opening-on base named h m z (rw lent no))
+        (rw lent (begins len base named h m lent no k))

@@ -1,6 +1,0 @@
--- The laws that the proofs of this crate share, by subject.
-
--- the numbers of an opening
-pub mod Opened
--- what an opening comes to
-pub mod Begun
