@@ -2,12 +2,6 @@
 
 -- the link to a place: by the place of the hole before, and by the list of holes before
 pub mod Linked
--- the rules on the holes, by a walk to the end and its sum
-pub mod AddsUp
--- the holes behind a part of the list
-pub mod Rest
--- the holes of a heap that keeps every rule
-pub mod Stands
 -- an outcome that waits on the rules on the holes
 pub mod Sifted
 -- a request, by what its layout comes to

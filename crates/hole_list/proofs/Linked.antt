@@ -15,7 +15,7 @@ use Rattle.rules.specs.declared.Heap.{Heap}
 use Rattle.rules.specs.Inner.{firstOr, Rises}
 use Rattle.rules.proofs.Lists.{Holds}
 use Rattle.rules.proofs.Relink.{link}
-use Rattle.cursor.specs.Walk.{lastPlace}
+use Rattle.walk.specs.Walk.{lastPlace}
 use Rattle.hole_list.specs.Settled.{leadingTo, linkedHeap, linkedArena}
 
 -- ---- the last hole of a list
