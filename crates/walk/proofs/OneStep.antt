@@ -19,7 +19,7 @@ use Rattle.rules.specs.declared.Head.{Head}
 use Rattle.rules.specs.declared.Hole.{Hole}
 use Rattle.rules.specs.declared.Heap.{Heap}
 use Rattle.rules.specs.Inner.{headRules, ends}
-use Rattle.rules.proofs.Cases.{cases, apart}
+use Rattle.rules.proofs.Cases.{cases, by-test, apart}
 use Rattle.rules.proofs.Walk.{Keeps, rules-keep, keep-rules}
 use Rattle.walk.specs.declared.Step.{Step}
 use Rattle.walk.specs.declared.Step.the-variants as step
@@ -45,21 +45,6 @@ eight-both a b e f = or-mod a b 3 ∙ rw (e, f)
 abbrev pub holeAt : Heap → List ℕ → Place → Hole
 holeAt h m at = hole (addrOf (h .base) at) (headAt m at .size)
 
--- the three ways of a step are apart
-at-end {ℓ} : {X : Type ℓ} {k : Hole} {q : Place} → step.End ≡ step.At k q → X
-at-end e = let z : _≡_ {A = ℕ} 0 1 = cc in absurd (omega arith)
-
-at-bad {ℓ} : {X : Type ℓ} {k : Hole} {q : Place} → step.Bad ≡ step.At k q → X
-at-bad e = let z : _≡_ {A = ℕ} 0 1 = cc in absurd (omega arith)
-
-end-bad {ℓ} : {X : Type ℓ} → step.Bad ≡ step.End → X
-end-bad e = let z : _≡_ {A = ℕ} 0 1 = cc in absurd (omega arith)
-
--- the last step is no hole
-last-at {ℓ} : {X : Type ℓ} (h : Heap) (floor : Addr) {k : Hole} {q : Place} → lastOf h floor ≡ step.At k q → X
-unfolding lastOf
-last-at h floor e = cases (ends h floor) (λ t. at-end (rw t at e)) (λ t. at-bad (rw t at e))
-
 -- a hole that a step finds is the one whose head stands at the place, and it keeps its rules
 pub record Found (h : Heap) (m : List ℕ) (at : Place) (floor : Addr) (k : Hole) (q : Place) : Type 0 where
   pub some : isNone at ≡ false
@@ -67,49 +52,22 @@ pub record Found (h : Heap) (m : List ℕ) (at : Place) (floor : Addr) (k : Hole
   pub next : q ≡ headAt m at .next
   pub rules : all (headRules h floor k) ≡ true
 
+-- there is no further head, and what is left is 0 or at least 16 bytes; or the end breaks a rule, or the head does
 module _ (h : Heap) (m : List ℕ) (at : Place) (floor : Addr) where
-  pub step-none : isNone at ≡ true → stepOf h m at floor ≡ lastOf h floor
-  unfolding stepOf
-  step-none e = rw e
+  abbrev pub Finds : Step → Type 0
+  Finds (step.At k q) = Found h m at floor k q
+  Finds step.End = (isNone at ≡ true) × (ends h floor ≡ true)
+  Finds step.Bad = (isNone at ≡ true → ends h floor ≡ false) × (isNone at ≡ false → all (headRules h floor (holeAt h m at)) ≡ false)
 
-  step-some : isNone at ≡ false → stepOf h m at floor ≡ headOf h floor (holeAt h m at) (headAt m at .next)
-  unfolding stepOf
-  step-some e = rw e
-
-  pub step-at : {k : Hole} {q : Place} → stepOf h m at floor ≡ step.At k q → Found h m at floor k q
-  unfolding headOf
-  step-at {k} {q} e =
-      cases (isNone at)
-      (λ t. last-at h floor (sym (step-none t) ∙ e))
+  pub finds : Finds (stepOf h m at floor)
+  unfolding stepOf lastOf headOf
+  finds =
+      by-test Finds (isNone at) _ _
+      (λ t. by-test Finds (ends h floor) _ _ (λ e. (t, e)) (λ e. (λ u. e, λ u. apart t u)))
       (λ t.
-      let p = sym (step-some t) ∙ e in
-      cases (all (headRules h floor (holeAt h m at)))
-      (λ r.
-      let s : step.At (holeAt h m at) (headAt m at .next) ≡ step.At k q = rw r at p in
-      let hole : k ≡ holeAt h m at = cc in
-      record { some = t; hole = hole; next = cc; rules = rw hole r })
-      (λ r. at-bad (rw r at p)))
-
-  -- it finds the end only where there is no further head, and what is left is 0 or at least 16 bytes
-  pub step-end : stepOf h m at floor ≡ step.End → (isNone at ≡ true) × (ends h floor ≡ true)
-  unfolding headOf lastOf
-  step-end e =
-      cases (isNone at)
-      (λ t.
-      let p = sym (step-none t) ∙ e in
-      (t, cases (ends h floor) (λ r. r) (λ r. end-bad (rw r at p))))
-      (λ t.
-      let p = sym (step-some t) ∙ e in
-      cases (all (headRules h floor (holeAt h m at))) (λ r. at-end (sym (rw r at p))) (λ r. end-bad (rw r at p)))
-
-  -- where it finds a broken rule, the end breaks one, or the head does
-  pub step-bad : stepOf h m at floor ≡ step.Bad
-      → (isNone at ≡ true → ends h floor ≡ false) × (isNone at ≡ false → all (headRules h floor (holeAt h m at)) ≡ false)
-  unfolding headOf lastOf
-  step-bad e = (
-    λ t. cases (ends h floor) (λ r. end-bad (sym (rw r at (sym (step-none t) ∙ e)))) (λ r. r),
-    λ t. cases (all (headRules h floor (holeAt h m at))) (λ r. at-bad (sym (rw r at (sym (step-some t) ∙ e)))) (λ r. r),
-  )
+      by-test Finds (all (headRules h floor (holeAt h m at))) _ _
+      (λ e. record { some = t; hole = refl; next = refl; rules = e })
+      (λ e. (λ u. apart u t, λ u. e)))
 
 -- a step that finds no hole, as a `let .. else` parts it, finds the end or a broken rule
 pub is-end : (s : Step) → isEnd s ≡ true → s ≡ step.End
@@ -125,18 +83,20 @@ is-bad (step.At k q) (inr o) e = absurd (omega arith)
 is-bad step.End o e = apart refl e
 is-bad step.Bad o e = refl
 
--- ---- the same, by what `next` tests
+-- ---- by what `next` tests
 
 module _ (h : Heap) (m : List ℕ) (at : Place) (floor : Addr) where
   pub ended : at .0 ≡ none .0 → lastOf h floor ≡ stepOf h m at floor
-  ended e = sym (step-none h m at floor (eq-eqb (at .0) (none .0) e))
+  unfolding stepOf
+  ended e = rw (eq-eqb (at .0) (none .0) e)
 
   module _ (some : at .0 ≡ none .0 → ⊥) (d : Head) (is : d ≡ headAt m at) where
     abbrev found : Hole
     found = hole (addrOf (h .base) at) (d .size)
 
     headed : headOf h floor found (d .next) ≡ stepOf h m at floor
-    headed = rw is (sym (step-some h m at floor (ne-eqb (at .0) (none .0) some)))
+    unfolding stepOf
+    headed = rw (is, ne-eqb (at .0) (none .0) some)
 
     pub kept : Keeps h floor found → step.At found (d .next) ≡ stepOf h m at floor
     unfolding headOf

@@ -20,32 +20,24 @@ use Rattle.walk.specs.declared.Walked.the-variants as whole
 use Rattle.walk.specs.Walk.{Enough, stepOf, isEnd, never, walkedBy, walkedOf}
 use Rattle.walk.proofs.Step as Steps
 use Rattle.walk.proofs.Passed.{total-more}
-use Rattle.walk.proofs.Turn.{Gone, begins, goes-on, ends-here, breaks}
+use Rattle.walk.proofs.Turn.{Walk, Gone, begins, goes-on, ends-here, breaks}
+
+-- from a place and a floor on, with the sum of the sizes before
+abbrev pub onward : Heap → List ℕ → Place → Addr → Walk
+onward h m from low = record { stops = never; h = h; m = m; from = from; low = low }
 
 module _ (h : Heap) (m : List ℕ) (from : Place) (low : Addr) (before : ℕ) where
-  -- the sum is that of the holes passed and of those before them
   pub record Summing (at : Place) (floor : Addr) (total : ℕ) : Type 0 where
     pub front : List Hole
-    pub gone : Gone never h m from low at floor front
+    pub gone : Gone (onward h m from low) at floor front
     pub summed : total ≡ before + Holes.total front
 
   pub sums : Fair h → low .0 ≤ h .top .0 + minSize → Summing from low before
   unfolding Holes.total
-  sums f l = record { front = []; gone = begins never h m from low f l; summed = omega arith }
+  sums f l = record { front = []; gone = begins (onward h m from low) f l; summed = omega arith }
 
-module _
-    {h : Heap}
-    {m : List ℕ}
-    {from : Place}
-    {low : Addr}
-    {before : ℕ}
-    {at : Place}
-    {floor : Addr}
-    {total : ℕ}
-    (s : Summing h m from low before at floor total)
-    {st : Step}
-    (is : st ≡ stepOf h m at floor)
-  where
+module _ {h : Heap} {m : List ℕ} {from : Place} {low : Addr} {before : ℕ} {at : Place} {floor : Addr} {total : ℕ} where
+  module _ (s : Summing h m from low before at floor total) {st : Step} (is : st ≡ stepOf h m at floor) where
     pub sums-on : {k : Hole} {q : Place} → st ≡ step.At k q → Summing h m from low before q (behind k) (total + k .size)
     sums-on {k} e =
         record {

@@ -28,59 +28,30 @@ use Rattle.walk.specs.declared.Search.{Search}
 use Rattle.walk.specs.declared.Search.the-variants as search
 use Rattle.walk.specs.Walk.{startOf, stepOf, isEnd, Stop, stopped, ended, broken, walked, lastPlace, lastFloor, cursorAt, searchBy, searchOf}
 use Rattle.walk.proofs.Step as Steps
-use Rattle.walk.proofs.Passed.{Spaced, count-more}
+use Rattle.walk.proofs.Passed.{Spaced}
 use Rattle.walk.proofs.Turn.{turn-place, all-halt, all-end, all-break}
 use Rattle.walk.proofs.Said.{None, Says, said}
-use Rattle.walk.proofs.Seeking.{Seeking, seeks, seeks-on}
+use Rattle.walk.proofs.Seeking.{Seeking}
 
 -- ---- the loop
 
--- with the number of the holes passed
-pub record Searching (h : Heap) (want align : ℕ) (m : List ℕ) (cursor : Cursor) (floor : Addr) (total count : ℕ) : Type 0 where
-  pub front : List Hole
-  pub seeking : Seeking (Allocate.suits want align) h m cursor floor total front
-  pub counted : count ≡ length front
-
-pub searches : (h : Heap) (want align : ℕ) (m : List ℕ) → Fair h → Searching h want align m (cursorAt none (h .first)) (startOf h) 0 0
-searches h want align m f = record { front = []; seeking = seeks (Allocate.suits want align) h m f; counted = refl }
-
-module _
-    {h : Heap}
-    {want align : ℕ}
-    {m : List ℕ}
-    {cursor : Cursor}
-    {floor : Addr}
-    {total count : ℕ}
-    (s : Searching h want align m cursor floor total count)
-    {st : Step}
-    (is : st ≡ stepOf h m (cursor .hole) floor)
-  where
-    module _ {k : Hole} {q : Place} (e : st ≡ step.At k q) where
-      pub search-on : Allocate.suits want align k ≡ false
-          → Searching h want align m (cursorAt (cursor .hole) q) (behind k) (total + k .size) (count + 1)
-      search-on n =
-          record {
-            front = s .front ++ (k ∷ []);
-            seeking = seeks-on (s .seeking) is e n;
-            counted = rw (s .counted) (sym (count-more (s .front) k));
-          }
-
-      pub search-found : Allocate.suits want align k ≡ true
-          → search.At (record { cursor = cursor; hole = k; next = q; count = count + 1; total = total + k .size })
-          ≡ searchOf h want align (holes h m)
-      unfolding searchOf searchBy
-      search-found y =
-          let z = s .seeking in
-          let t = all-halt (z .gone) is e y in
-          rw (t .1, t .2, ← z .prev, ← turn-place (z .gone) is e, s .counted, z .summed)
+module _ (want align : ℕ) {h : Heap} {m : List ℕ} {cursor : Cursor} {floor : Addr} {total count : ℕ} where
+  module _ (s : Seeking (Allocate.suits want align) h m cursor floor total count) {st : Step} (is : st ≡ stepOf h m (cursor .hole) floor) where
+    pub search-found : {k : Hole} {q : Place} → st ≡ step.At k q → Allocate.suits want align k ≡ true
+        → search.At (record { cursor = cursor; hole = k; next = q; count = count + 1; total = total + k .size })
+        ≡ searchOf h want align (holes h m)
+    unfolding searchOf searchBy
+    search-found e y =
+        let t = all-halt (s .gone) is e y in
+        rw (t .1, t .2, ← s .prev, ← turn-place (s .gone) is e, s .counted, s .summed)
 
     pub search-ended : isEnd st ≡ true → search.Nowhere count total ≡ searchOf h want align (holes h m)
     unfolding searchOf searchBy
-    search-ended e = let z = s .seeking in rw (all-end (z .gone) is e, s .counted, z .summed)
+    search-ended e = rw (all-end (s .gone) is e, s .counted, s .summed)
 
     pub search-broken : OneOf (1 ∷ 2 ∷ []) (tagOf Steps.the-type st) → isEnd st ≡ false → search.Bad ≡ searchOf h want align (holes h m)
     unfolding searchOf searchBy
-    search-broken o e = rw (all-break (s .seeking .gone) is o e)
+    search-broken o e = rw (all-break (s .gone) is o e)
 
 -- ---- what the answer says of the list
 

@@ -25,40 +25,27 @@ use Rattle.walk.specs.declared.Step.{Step}
 use Rattle.walk.specs.declared.Step.the-variants as step
 use Rattle.walk.specs.declared.Spot.{Spot}
 use Rattle.walk.specs.declared.Spot.the-variants as spot
-use Rattle.walk.specs.Walk.{startOf, stepOf, isEnd, Stop, stopped, ended, broken, lastPlace, lastFloor, nearBy, nearOf}
+use Rattle.walk.specs.Walk.{startOf, stepOf, isEnd, Stop, stopped, ended, broken, lastPlace, lastFloor, isBeyond, nearTo, nearBy, nearOf}
 use Rattle.walk.proofs.Step as Steps
 use Rattle.walk.proofs.Passed.{Spaced}
 use Rattle.walk.proofs.Turn.{turn-place, end-place, all-halt, all-end, all-break}
-use Rattle.walk.proofs.Said.{None, Says, said}
+use Rattle.walk.proofs.Said.{None, Came, Says, said}
 use Rattle.walk.proofs.Seeking.{Seeking}
-
--- a hole that lies beyond an address stops the walk
-abbrev pub beyondTest : Addr → Hole → Bool
-beyondTest x k = before x (k .addr)
 
 -- ---- the loop
 
-module _
-    {h : Heap}
-    (x : Addr)
-    {m : List ℕ}
-    {cursor : Cursor}
-    {floor : Addr}
-    {total : ℕ}
-    {front : List Hole}
-    (s : Seeking (beyondTest x) h m cursor floor total front)
-    {st : Step}
-    (is : st ≡ stepOf h m (cursor .hole) floor)
-  where
-    pub near-found : {k : Hole} {q : Place} → st ≡ step.At k q → x .0 < k .addr .0
-        → spot.Between (record { cursor = cursor; floor = floor; total = total }) ≡ nearOf h x (holes h m)
+module _ (x : Addr) {h : Heap} {m : List ℕ} {cursor : Cursor} {floor : Addr} {total count : ℕ} where
+  module _ (s : Seeking (isBeyond x) h m cursor floor total count) {st : Step} (is : st ≡ stepOf h m (cursor .hole) floor) where
+    abbrev here : Spot
+    here = spot.Between (record { cursor = cursor; floor = floor; total = total })
+
+    pub near-found : {k : Hole} {q : Place} → st ≡ step.At k q → x .0 < k .addr .0 → here ≡ nearOf h x (holes h m)
     unfolding nearOf nearBy firstOf
     near-found {k} e l =
         let t = all-halt (s .gone) is e (lt-ltb (x .0) (k .addr .0) l) in
         rw (t .1, ← s .prev, ← turn-place (s .gone) is e, ← s .gone .behind, ← s .summed)
 
-    pub near-ended : isEnd st ≡ true
-        → spot.Between (record { cursor = cursor; floor = floor; total = total }) ≡ nearOf h x (holes h m)
+    pub near-ended : isEnd st ≡ true → here ≡ nearOf h x (holes h m)
     unfolding nearOf nearBy firstOf
     near-ended e = rw (all-end (s .gone) is e, ← s .prev, ← end-place (s .gone) is e, ← s .gone .behind, ← s .summed)
 
@@ -73,7 +60,7 @@ abbrev pub AllFrom : Addr → List Hole → Type 0
 AllFrom x [] = Unit {0}
 AllFrom x (k ∷ ks) = (k .addr .0 ≤ x .0) × AllFrom x ks
 
-all-from : (x : Addr) (ks : List Hole) → None (beyondTest x) ks → AllFrom x ks
+all-from : (x : Addr) (ks : List Hole) → None (isBeyond x) ks → AllFrom x ks
 all-from x [] n = tt
 all-from x (k ∷ ks) n = (ltb-false (x .0) (k .addr .0) (n .0), all-from x ks (n .1))
 
@@ -106,46 +93,34 @@ module _ (h : Heap) (x : Addr) where
   Tells ks (spot.Between s) = Lies ks s
   Tells ks spot.Bad = walks h (startOf h) ks ≡ false
 
-  tells : (ks : List Hole) (s : Stop) → Says (beyondTest x) h (startOf h) ks s → Tells ks (nearBy h s)
+  came-lies : (ks front back : List Hole) → Came (isBeyond x) h (startOf h) ks front back → Beyond x back
+      → Begins h (lastFloor (startOf h) front) back → Lies ks (nearTo h front back)
+  came-lies ks front back c b r =
+      record {
+        front = front;
+        back = back;
+        list = c .list;
+        before = all-from x front (c .none);
+        beyond = b;
+        prev = refl;
+        at = refl;
+        floor = refl;
+        summed = refl;
+        begins = r;
+        spaced = c .spaced;
+        onward = c .onward;
+      }
+
+  tells : (ks : List Hole) (s : Stop) → Says (isBeyond x) h (startOf h) ks s → Tells ks (nearBy h s)
   unfolding nearBy
-  tells ks (stopped front k back) s =
-      let c = s .0 in
-      record {
-        front = front;
-        back = k ∷ back;
-        list = c .list;
-        before = all-from x front (c .none);
-        beyond = ltb-true (x .0) (k .addr .0) (s .2);
-        prev = refl;
-        at = refl;
-        floor = refl;
-        summed = refl;
-        begins = s .1;
-        spaced = c .spaced;
-        onward = c .onward;
-      }
-  tells ks (ended front) s =
-      let c = s .0 in
-      record {
-        front = front;
-        back = [];
-        list = c .list;
-        before = all-from x front (c .none);
-        beyond = tt;
-        prev = refl;
-        at = refl;
-        floor = refl;
-        summed = refl;
-        begins = s .1;
-        spaced = c .spaced;
-        onward = c .onward;
-      }
+  tells ks (stopped front k back) s = came-lies ks front (k ∷ back) (s .0) (ltb-true (x .0) (k .addr .0) (s .2)) (s .1)
+  tells ks (ended front) s = came-lies ks front [] (s .0) tt (s .1)
   tells ks broken s = s
 
   module _ (ks : List Hole) where
     told : Tells ks (nearOf h x ks)
     unfolding nearOf
-    told = tells ks _ (said (beyondTest x) h (startOf h) ks)
+    told = tells ks _ (said (isBeyond x) h (startOf h) ks)
 
     pub near-at : {s : Near} → nearOf h x ks ≡ spot.Between s → Lies ks s
     near-at e = rw e at told

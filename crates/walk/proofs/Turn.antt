@@ -11,7 +11,6 @@ use denote.Enum.Declared.{tagOf}
 use types.Run.{OneOf}
 use borrow.Author.Tests.{eqb-true, eqb-false, eq-eqb, ne-eqb}
 use Rattle.rules.specs.Fixed.{minSize, addrLimit}
-use Rattle.rules.specs.Tests.{all}
 use Rattle.rules.specs.Kinds.{placeOf, none, isNone}
 use Rattle.rules.specs.Holes.{headAt, holesFrom, firstOf, total}
 use Rattle.rules.specs.Sound.{most, holes}
@@ -19,15 +18,15 @@ use Rattle.rules.specs.declared.Addr.{Addr}
 use Rattle.rules.specs.declared.Place.{Place}
 use Rattle.rules.specs.declared.Hole.{Hole}
 use Rattle.rules.specs.declared.Heap.{Heap}
-use Rattle.rules.specs.Inner.{Fair, headRules, behind}
+use Rattle.rules.specs.Inner.{Fair, behind, ends}
 use Rattle.rules.proofs.Cases.{cases}
-use Rattle.rules.proofs.Walk.{Keeps, rules-keep, floorOf, floor-low, floor-high}
+use Rattle.rules.proofs.Walk.{rules-keep, floorOf, floor-low, floor-high}
 use Rattle.rules.proofs.Lists.{from-none, from-step, place-back, first-from, holes-read}
 use Rattle.walk.specs.declared.Step.{Step}
 use Rattle.walk.specs.declared.Step.the-variants as step
-use Rattle.walk.specs.Walk.{Enough, startOf, stepOf, isEnd, stopped, ended, broken, past, walked, lastFloor}
+use Rattle.walk.specs.Walk.{Enough, startOf, stepOf, isEnd, Stop, stopped, ended, broken, past, walked, lastFloor}
 use Rattle.walk.proofs.Step as Steps
-use Rattle.walk.proofs.OneStep.{holeAt, Found, step-none, step-at, step-end, step-bad, is-end, is-bad}
+use Rattle.walk.proofs.OneStep.{holeAt, Found, finds, is-end, is-bad}
 use Rattle.walk.proofs.Passed.{past-none, past-more, floor-some, Spaced, spaced-none, spaced-more}
 
 -- ---- the list at a place
@@ -76,131 +75,138 @@ module _ (h : Heap) (m : List ℕ) (at : Place) (floor : Addr) (n : ℕ) (en : E
 
 -- ---- a walk that has come to a place
 
-module _ (stops : Hole → Bool) (h : Heap) (m : List ℕ) (from : Place) (low : Addr) where
-  -- of n heads from where it began, those that are left
-  pub record Left (at : Place) (floor : Addr) (front : List Hole) (n : ℕ) : Type 0 where
-    pub rest : ℕ
-    pub enough : Enough h floor rest
-    pub list : holesFrom n (h .base) m from ≡ front ++ holesFrom rest (h .base) m at
-    pub same : walked stops h low (holesFrom n (h .base) m from) ≡ past front (walked stops h floor (holesFrom rest (h .base) m at))
+-- a walk: what stops it, the heap and its arena, the place and the floor from which it starts
+pub record Walk : Type 0 where
+  pub stops : Hole → Bool
+  pub h : Heap
+  pub m : List ℕ
+  pub from : Place
+  pub low : Addr
 
-  -- what it has passed; and what is left, however far the list is read
-  pub record Gone (at : Place) (floor : Addr) (front : List Hole) : Type 0 where
-    pub fair : Fair h
-    pub left : (n : ℕ) → Enough h low n → Left at floor front n
-    pub behind : floor ≡ lastFloor low front
-    pub spaced : Spaced low front
-    pub high : floor .0 ≤ h .top .0 + minSize
+-- the first n of its holes
+abbrev pub few : Walk → ℕ → List Hole
+few w n = holesFrom n (w .h .base) (w .m) (w .from)
 
-  pub begins : Fair h → low .0 ≤ h .top .0 + minSize → Gone from low []
-  unfolding lastFloor
-  begins f l =
-      record {
-        fair = f;
-        left = λ n en. record { rest = n; enough = en; list = refl; same = past-none _ };
-        behind = refl;
-        spaced = spaced-none low;
-        high = l;
-      }
+-- where it comes to over some holes
+abbrev pub over : Walk → List Hole → Stop
+over w ks = walked (w .stops) (w .h) (w .low) ks
+
+-- of its first n holes, those that are left
+pub record Left (w : Walk) (at : Place) (floor : Addr) (front : List Hole) (n : ℕ) : Type 0 where
+  pub rest : ℕ
+  pub enough : Enough (w .h) floor rest
+  pub list : few w n ≡ front ++ holesFrom rest (w .h .base) (w .m) at
+  pub same : over w (few w n) ≡ past front (walked (w .stops) (w .h) floor (holesFrom rest (w .h .base) (w .m) at))
+
+-- what it has passed; and what is left, however far the list is read
+pub record Gone (w : Walk) (at : Place) (floor : Addr) (front : List Hole) : Type 0 where
+  pub fair : Fair (w .h)
+  pub left : (n : ℕ) → Enough (w .h) (w .low) n → Left w at floor front n
+  pub behind : floor ≡ lastFloor (w .low) front
+  pub spaced : Spaced (w .low) front
+  pub high : floor .0 ≤ w .h .top .0 + minSize
+
+pub begins : (w : Walk) → Fair (w .h) → w .low .0 ≤ w .h .top .0 + minSize → Gone w (w .from) (w .low) []
+unfolding lastFloor
+begins w f l =
+    record {
+      fair = f;
+      left = λ n en. record { rest = n; enough = en; list = refl; same = past-none _ };
+      behind = refl;
+      spaced = spaced-none (w .low);
+      high = l;
+    }
 
 -- ---- one turn
 
 -- what every loop leans on for its sums and its measure: the hole lies between the floor and top, and the holes passed below the floor
-pub record Bounds (h : Heap) (low floor : Addr) (front : List Hole) (k : Hole) : Type 0 where
+pub record Bounds (w : Walk) (floor : Addr) (front : List Hole) (k : Hole) : Type 0 where
   pub above : floor .0 ≤ k .addr .0
   pub least : minSize ≤ k .size
-  pub inside : k .addr .0 + k .size ≤ h .top .0
-  pub limit : h .top .0 ≤ addrLimit
-  pub counted : low .0 + (2 * minSize) * length front ≤ floor .0
-  pub summed : low .0 + total front ≤ floor .0
+  pub inside : k .addr .0 + k .size ≤ w .h .top .0
+  pub limit : w .h .top .0 ≤ addrLimit
+  pub counted : w .low .0 + (2 * minSize) * length front ≤ floor .0
+  pub summed : w .low .0 + total front ≤ floor .0
 
-module _
-    {stops : Hole → Bool}
-    {h : Heap}
-    {m : List ℕ}
-    {from : Place}
-    {low : Addr}
-    {at : Place}
-    {floor : Addr}
-    {front : List Hole}
-    (g : Gone stops h m from low at floor front)
-    {st : Step}
-    (is : st ≡ stepOf h m at floor)
-  where
-    module _ {k : Hole} {q : Place} (e : st ≡ step.At k q) where
-      found : Found h m at floor k q
-      found = step-at h m at floor (sym is ∙ e)
+module _ {w : Walk} {at : Place} {floor : Addr} {front : List Hole} (g : Gone w at floor front) {st : Step} (is : st ≡ stepOf (w .h) (w .m) at floor) where
+  abbrev At : Hole → Place → Type 0
+  At k q = st ≡ step.At k q
 
-      keeps : Keeps h floor k
-      keeps = rules-keep h floor k (found .rules)
+  found : {k : Hole} {q : Place} → At k q → Found (w .h) (w .m) at floor k q
+  found e = rw (sym is ∙ e) at (finds (w .h) (w .m) at floor)
 
-      -- the step finds a hole: what the sums lean on, and where it lies
-      pub turn-bounds : Bounds h low floor front k
-      turn-bounds =
-          let r = keeps in
-          let f = ap (λ (a : Addr). a .0) (g .behind) in
-          let s = g .spaced in
-          let l = g .fair in
-          omega arith
+  ahead-of : {k : Hole} {q : Place} → At k q → {n : ℕ} (l : Left w at floor front n) → Ahead (w .h) (w .m) at (l .rest) k q
+  ahead-of e l = ahead (w .h) (w .m) at floor (l .rest) (l .enough) (g .high) (found e)
 
-      pub turn-place : at ≡ placeOf (h .base) (k .addr)
-      turn-place = rw (found .hole) (sym (place-back (h .base) at))
+  -- the step finds a hole
+  pub turn-bounds : {k : Hole} {q : Place} → At k q → Bounds w floor front k
+  turn-bounds {k} e =
+      let r = rules-keep (w .h) floor k (found e .rules) in
+      let f = ap (λ (a : Addr). a .0) (g .behind) in
+      let s = g .spaced in
+      let l = g .fair in
+      omega arith
 
-      -- it is passed
-      pub goes-on : stops k ≡ false → Gone stops h m from low q (behind k) (front ++ (k ∷ []))
-      unfolding walked
-      goes-on n =
-          let r = keeps in
-          let f = ap (λ (a : Addr). a .0) (g .behind) in
-          record {
-            fair = g .fair;
-            left =
-                λ i en.
-                let l = g .left i en in
-                let a = ahead h m at floor (l .rest) (l .enough) (g .high) found in
-                record {
-                  rest = a .rest;
-                  enough = a .enough;
-                  list = l .list ∙ rw (a .list, append-assoc);
-                  same = l .same ∙ rw (a .list, found .rules, n) (past-more front k _);
-                };
-            behind = sym (floor-some low front k);
-            spaced = spaced-more low front k (r .least) (g .spaced) (omega arith);
-            high = omega arith;
-          }
+  pub turn-place : {k : Hole} {q : Place} → At k q → at ≡ placeOf (w .h .base) (k .addr)
+  turn-place e = rw (found e .hole) (sym (place-back (w .h .base) at))
 
-      -- it stops the walk
-      pub halts : stops k ≡ true → (n : ℕ) → Enough h low n
-          → (back : List Hole) × (walked stops h low (holesFrom n (h .base) m from) ≡ stopped front k back) × (firstOf (h .base) back ≡ q)
-      unfolding walked past
-      halts y n en =
-          let l = g .left n en in
-          let a = ahead h m at floor (l .rest) (l .enough) (g .high) found in
-          (holesFrom (a .rest) (h .base) m q, l .same ∙ rw (a .list, found .rules, y, append-nil), a .first)
+  -- it is passed
+  pub goes-on : {k : Hole} {q : Place} → At k q → w .stops k ≡ false → Gone w q (behind k) (front ++ (k ∷ []))
+  unfolding walked
+  goes-on {k} e n =
+      let b = turn-bounds e in
+      let f = ap (λ (a : Addr). a .0) (g .behind) in
+      record {
+        fair = g .fair;
+        left =
+            λ i en.
+            let l = g .left i en in
+            let a = ahead-of e l in
+            record {
+              rest = a .rest;
+              enough = a .enough;
+              list = l .list ∙ rw (a .list, append-assoc);
+              same = l .same ∙ rw (a .list, found e .rules, n) (past-more front k _);
+            };
+        behind = sym (floor-some (w .low) front k);
+        spaced = spaced-more (w .low) front k (b .least) (g .spaced) (omega arith);
+        high = omega arith;
+      }
 
-    -- the step finds no further hole
-    pub ends-here : isEnd st ≡ true → (n : ℕ) → Enough h low n → walked stops h low (holesFrom n (h .base) m from) ≡ ended front
-    unfolding walked past
-    ends-here e n en =
-        let l = g .left n en in
-        let t = step-end h m at floor (sym is ∙ is-end st e) in
-        l .same ∙ rw (holes-none (l .rest) h m at (t .0), t .1, append-nil)
+  -- it stops the walk
+  pub halts : {k : Hole} {q : Place} → At k q → w .stops k ≡ true → (n : ℕ) → Enough (w .h) (w .low) n
+      → (back : List Hole) × (over w (few w n) ≡ stopped front k back) × (firstOf (w .h .base) back ≡ q)
+  unfolding walked past
+  halts {k} {q} e y n en =
+      let l = g .left n en in
+      let a = ahead-of e l in
+      (holesFrom (a .rest) (w .h .base) (w .m) q, l .same ∙ rw (a .list, found e .rules, y, append-nil), a .first)
 
-    -- so the place is none
-    pub end-place : isEnd st ≡ true → at ≡ none
-    end-place e = let z = eqb-true (at .0) (none .0) (step-end h m at floor (sym is ∙ is-end st e) .0) in rw z
+  -- the step finds no further hole
+  end-found : isEnd st ≡ true → (isNone at ≡ true) × (ends (w .h) floor ≡ true)
+  end-found e = rw (sym is ∙ is-end st e) at (finds (w .h) (w .m) at floor)
 
-    -- or a broken rule
-    pub breaks : OneOf (1 ∷ 2 ∷ []) (tagOf Steps.the-type st) → isEnd st ≡ false → (n : ℕ) → Enough h low n
-        → walked stops h low (holesFrom n (h .base) m from) ≡ broken
-    unfolding walked past
-    breaks o e n en =
-        let l = g .left n en in
-        let b = step-bad h m at floor (sym is ∙ is-bad st o e) in
-        l .same
-        ∙ cases (isNone at)
-        (λ t. rw (holes-none (l .rest) h m at t, b .0 t))
-        (λ t. rw (list-at h m at floor (l .rest) (l .enough) (g .high) t, b .1 t))
+  pub end-place : isEnd st ≡ true → at ≡ none
+  end-place e = let z = eqb-true (at .0) (none .0) (end-found e .0) in rw z
+
+  pub ends-here : isEnd st ≡ true → (n : ℕ) → Enough (w .h) (w .low) n → over w (few w n) ≡ ended front
+  unfolding walked past
+  ends-here e n en =
+      let l = g .left n en in
+      let t = end-found e in
+      l .same ∙ rw (holes-none (l .rest) (w .h) (w .m) at (t .0), t .1, append-nil)
+
+  -- or a broken rule
+  pub breaks : OneOf (1 ∷ 2 ∷ []) (tagOf Steps.the-type st) → isEnd st ≡ false → (n : ℕ) → Enough (w .h) (w .low) n
+      → over w (few w n) ≡ broken
+  unfolding walked past
+  breaks o e n en =
+      let l = g .left n en in
+      let b = rw (sym is ∙ is-bad st o e) at (finds (w .h) (w .m) at floor) in
+      l .same
+      ∙ cases (isNone at)
+      (λ t. rw (holes-none (l .rest) (w .h) (w .m) at t, b .0 t))
+      (λ t. rw (list-at (w .h) (w .m) at floor (l .rest) (l .enough) (g .high) t, b .1 t))
 
 -- ---- where a walk over all holes starts
 
@@ -247,19 +253,17 @@ start h m f =
       low = omega arith;
     }
 
--- ---- the turns that end a walk over all holes
+-- ---- a walk over all holes
 
-module _
-    {stops : Hole → Bool}
-    {h : Heap}
-    {m : List ℕ}
-    {at : Place}
-    {floor : Addr}
-    {front : List Hole}
-    (g : Gone stops h m (h .first) (startOf h) at floor front)
-    {st : Step}
-    (is : st ≡ stepOf h m at floor)
-  where
+abbrev pub all : (Hole → Bool) → Heap → List ℕ → Walk
+all stops h m = record { stops = stops; h = h; m = m; from = h .first; low = startOf h }
+
+pub begins-all : (stops : Hole → Bool) (h : Heap) (m : List ℕ) → Fair h → Gone (all stops h m) (h .first) (startOf h) []
+begins-all stops h m f = begins (all stops h m) f (start h m f .low)
+
+-- the turns that end it
+module _ {stops : Hole → Bool} {h : Heap} {m : List ℕ} {at : Place} {floor : Addr} {front : List Hole} (g : Gone (all stops h m) at floor front) where
+  module _ {st : Step} (is : st ≡ stepOf h m at floor) where
     pub all-halt : {k : Hole} {q : Place} → st ≡ step.At k q → stops k ≡ true
         → (back : List Hole) × (walked stops h (startOf h) (holes h m) ≡ stopped front k back) × (firstOf (h .base) back ≡ q)
     all-halt e y = let s = start h m (g .fair) in rw (s .list) (halts g is e y (suc (most h)) (s .enough))

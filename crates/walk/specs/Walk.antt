@@ -112,6 +112,9 @@ searchOf h want align ks = searchBy (h .base) (walked (suits want align) h (star
 
 -- ---- to the neighbours of an address: the first hole beyond it stops the walk
 
+abbrev pub isBeyond : Addr → Hole → Bool
+isBeyond x k = before x (k .addr)
+
 -- between the holes passed and those that are left
 abbrev pub nearTo : Heap → List Hole → List Hole → Near
 nearTo h front back =
@@ -127,7 +130,7 @@ nearBy h (ended ks) = spot.Between (nearTo h ks [])
 nearBy h broken = spot.Bad
 
 unfoldable pub nearOf : Heap → Addr → List Hole → Spot
-nearOf h x ks = nearBy h (walked (λ k. before x (k .addr)) h (startOf h) ks)
+nearOf h x ks = nearBy h (walked (isBeyond x) h (startOf h) ks)
 
 -- ---- to the end: no hole stops it
 

@@ -1,22 +1,21 @@
 -- `walk::to_span::neighbours` meets its contract: at each turn cursor and sum are those of the holes passed, and the floor rises.
 -- Assumes nothing.
 use mathlib.Core.Path.{sym, _∙_}
-use mathlib.Core.List.{List, []}
-use Prim.Native.Nat.{_+_, _-_}
+use Prim.Native.Nat.{ℕ, _+_, _-_}
 use native.Mathlib.Omega.{arith}
 use borrow.Author.Needs.{needs}
 use borrow.Author.Tests.{le-ltb}
 use Rattle.rules.specs.Fixed.{minSize}
-use Rattle.rules.specs.declared.Hole.{Hole}
+use Rattle.walk.specs.Walk.{isBeyond}
 use Rattle.walk.proofs.Turn.{turn-bounds}
 use Rattle.walk.proofs.Seeking.{Seeking, seeks, seeks-on}
-use Rattle.walk.proofs.ToSpan.{beyondTest, near-found, near-ended, near-broken}
+use Rattle.walk.proofs.ToSpan.{near-found, near-ended, near-broken}
 use Rattle.walk.proofs.to_span.neighbours.Statement.{statement}
 use Rattle.walk.proofs.to_span.neighbours.Tie as tie
 
 abbrev Inv-loop : tie.InvT-loop
 Inv-loop h arena addr cursor₀ floor₀ total₀ cursor floor total =
-    (front : List Hole) × Seeking (beyondTest addr) h arena cursor floor total front
+    (count : ℕ) × Seeking (isBeyond addr) h arena cursor floor total count
 
 abbrev μ-loop : tie.MeasureT-loop
 μ-loop h arena addr cursor₀ floor₀ total₀ cursor floor total = h .top .0 + minSize - floor .0
@@ -27,7 +26,7 @@ first-floor-requires c κs = search needs
 loop-holds : tie.Need-loop-holds Inv-loop μ-loop
 loop-holds c =
     let s = c .before .before .before in
-    rw (c .first-floor .ensures) ([], seeks (beyondTest (s .args .addr)) (s .args .h) (s .args .arena .now) (s .pre .fair))
+    rw (c .first-floor .ensures) (0, seeks (isBeyond (s .args .addr)) (s .args .h) (s .args .arena .now) (s .pre .fair))
 
 next-requires : tie.Need-next-requires Inv-loop μ-loop
 next-requires c κs = search needs
@@ -70,7 +69,7 @@ loop-again c =
     let s = c .before .before .before .before .before .before in
     let t = s .before .before in
     rw (c .behind .ensures)
-    (_, seeks-on (t .before .before .loop .inv .1) (t .next .ensures) (s .st .given .1) (le-ltb _ _ (c .before .before .if2 .left)))
+    (_, seeks-on _ _ _ (t .before .before .loop .inv .1) (t .next .ensures) (s .st .given .1) (le-ltb _ _ (c .before .before .if2 .left)))
 
 returns-2 : tie.Need-returns-2 Inv-loop μ-loop
 returns-2 c =
