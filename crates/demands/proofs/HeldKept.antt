@@ -205,7 +205,7 @@ call-settled (free x s align) n b f t settled =
     t
 call-settled (extend by) n b f t settled =
     settles (extend by) n b settled
-    (λ p. extended-settled b settled by (passed-stands n (b .heap) (b .holes) (p .1 .0) (p .1 .1 .0) .fair))
+    (λ p. extended-settled b settled by (passed-stands n (b .heap) (b .holes) (p .1 .0) (p .1 .1 .0) .ruled .fair))
 call-settled list n b f t settled = settles list n b settled (λ p. settled)
 call-settled room n b f t settled = settles room n b settled (λ p. settled)
 

@@ -1,28 +1,18 @@
-// The answer of a refused call.
-use rules::Answer;
-use rules::Done;
+// What a call decides whose request is bad: the holes are walked first.
+use hole::refuse;
+use rules::Decided;
 use rules::Heap;
 use rules::Refusal;
 use walk::is_sound;
 ghost use mathlib.Core.Path.{_≡_};
 ghost use mathlib.Core.Bool.{cond};
 ghost use Rattle.rules.specs.Sound.{soundHoles, holes};
-ghost use Rattle.rules.specs.Inner.{Lent};
+ghost use Rattle.rules.specs.Inner.{Lent, refusing};
 
-// A refused call: the heap comes back as it went in.
-pub fn refuse(h: Heap, r: Refusal) -> Done
-    ensures { λ d. ⌜ (d .answer ≡ Answer.Refused r) × (d .heap ≡ h) ⌝ }
-{
-    Done {
-        heap: h,
-        answer: Answer::Refused(r),
-    }
-}
-
-// A refusal that comes after 5: the holes are walked first.
-pub fn refuse_sound(h: Heap, arena: &[u8], r: Refusal) -> Done
+// Refuses where the holes keep every rule; where they do not, 5 comes first.
+pub fn refuse_if_sound(h: Heap, arena: &[u8], r: Refusal) -> Decided
     requires { ⌜ Lent h (now arena) ⌝ }
-    ensures { λ d. ⌜ (d .answer ≡ Answer.Refused (cond (soundHoles h (holes h (now (arena .entry)))) r Refusal.NotSound)) × (d .heap ≡ h) ⌝ }
+    ensures { λ d. ⌜ d ≡ refusing h (cond (soundHoles h (holes h (now (arena .entry)))) r Refusal.NotSound) ⌝ }
 {
     if is_sound(h, arena) {
         return refuse(h, r);

@@ -10,17 +10,16 @@ use types.Run.{OneOf}
 use borrow.Author.Tests.{eq-eqb, ne-eqb}
 use Rattle.rules.specs.Sound.{soundNumbers}
 use Rattle.rules.specs.Calls.{Call, refused}
-use Rattle.rules.specs.Outcome.{outcome, after, Is}
+use Rattle.rules.specs.Outcome.{outcome, after}
 use Rattle.rules.specs.declared.Heap.{Heap}
-use Rattle.rules.specs.declared.Done.{Done}
 use Rattle.rules.specs.declared.Refusal.{Refusal}
 use Rattle.rules.specs.declared.Refusal.the-variants.{Unopened, OtherLength, NotSound}
-use Rattle.rules.specs.declared.Answer.the-variants.{Refused}
 use Rattle.rules.proofs.Cases.{cases, by-eq}
-use Rattle.rules.specs.Inner.{Lent}
+use Rattle.rules.specs.Inner.{Lent, refusing, Decides}
 use Rattle.rules.proofs.Walk.{sound-fair}
 use Rattle.rules.proofs.Decide.{Opens}
-use Rattle.rules.proofs.Calls.{outcome-3, outcome-4, outcome-5, is-refused}
+use Rattle.rules.proofs.Calls.{outcome-3, outcome-4, outcome-5}
+use Rattle.rules.proofs.Written.{decides-refused, decides-left}
 use Rattle.numbers.specs.declared.Checked.{Checked}
 use Rattle.numbers.specs.declared.Checked.the-variants.{Fair, No}
 use Rattle.numbers.specs.Checks.{checkedOf}
@@ -84,7 +83,10 @@ module _ {v : Checked} {len : ℕ} (h : Heap) (m : List ℕ) (lent : len ≡ len
       let p = passes len h (sym said ∙ fair-is v o) in
       record { fair = sound-fair h (p .1); lent = sym lent ∙ p .0 }
 
-  -- the call hands the refusal back
-  pub tested-no : (c : Call) → Opens c ≡ false → {r : Refusal} {d : Done} → v ≡ No r → (d .answer ≡ Refused r) × (d .heap ≡ h)
-      → Is (after c h m) d m
-  tested-no c later {r} e p = is-refused c h m r (refuses-call c h m later (rw lent at (sym said ∙ e))) (p .0) (p .1)
+  pub tested-numbers : OneOf (0 ∷ []) (tagOf Verdict.the-type v) → soundNumbers h ≡ true
+  tested-numbers o = passes len h (sym said ∙ fair-is v o) .1
+
+  -- the call refuses
+  pub tested-no : (c : Call) → Opens c ≡ false → {r : Refusal} → v ≡ No r → Decides (after c h m) m (refusing h r)
+  tested-no c later {r} e =
+      decides-left c h m (refused r) (refuses-call c h m later (rw lent at (sym said ∙ e))) (decides-refused h m r)

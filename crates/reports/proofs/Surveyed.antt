@@ -11,7 +11,7 @@ use denote.Enum.Declared.{tagOf}
 use types.Run.{OneOf}
 use Rattle.rules.specs.Fixed.{minSize}
 use Rattle.rules.specs.Holes as Holes
-use Rattle.rules.specs.Sound.{size, most, listRules, soundHoles, holes}
+use Rattle.rules.specs.Sound.{size, most, listRules, soundNumbers, soundHoles, holes}
 use Rattle.rules.specs.Calls as Calls
 use Rattle.rules.specs.Outcome.{outcome}
 use Rattle.rules.specs.declared.Addr.{Addr}
@@ -20,7 +20,7 @@ use Rattle.rules.specs.declared.Refusal.{Refusal}
 use Rattle.rules.specs.declared.Refusal.the-variants.{NotSound}
 use Rattle.rules.specs.declared.Answer.the-variants.{Listed, Room}
 use Rattle.rules.proofs.Cases.{cases, all-each}
-use Rattle.rules.proofs.Walk.{sound-fair, fair-sound, sound-walk}
+use Rattle.rules.proofs.Walk.{sound-fair, sound-walk}
 use Rattle.rules.proofs.Decide.{Opens}
 use Rattle.rules.proofs.Calls.{outcome-fair, sifted-sound, sifted-broken, list-on, room-on}
 use Rattle.rules.specs.Inner.{Lent}
@@ -84,9 +84,9 @@ module _ (h : Heap) (m : List ℕ) where
   unfolding surveyBy
   survey-no lent said e = let q = rw lent at (sym said ∙ e) in rw q
 
-  module _ (l : Lent h m) where
+  module _ (l : Lent h m) (numbers : soundNumbers h ≡ true) where
     passed : checkedOf (length m) h ≡ checked.Fair
-    passed = let f = l .fair in sym (checked-fair (length m) h (λ z. omega arith) (l .lent) (fair-sound h f))
+    passed = let f = l .fair in sym (checked-fair (length m) h (λ z. omega arith) (l .lent) numbers)
 
     pub survey-broken : soundHoles h (holes h m) ≡ false → No NotSound ≡ surveyOf h m
     unfolding surveyBy
@@ -102,6 +102,7 @@ module _ (h : Heap) (m : List ℕ) where
 -- a survey that says yes
 pub record Surveyed (h : Heap) (m : List ℕ) (n g : ℕ) : Type 0 where
   pub lent : Lent h m
+  pub numbers : soundNumbers h ≡ true
   pub sound : soundHoles h (holes h m) ≡ true
   pub count : n ≡ length (holes h m)
   pub largest : g ≡ Holes.largest (holes h m)
@@ -117,7 +118,7 @@ module _ (h : Heap) (m : List ℕ) where
       let q : Of (length (holes h m)) (Holes.largest (holes h m)) ≡ Of n g = rw s at e in
       let a : n ≡ length (holes h m) = cc in
       let b : g ≡ Holes.largest (holes h m) = cc in
-      record { lent = record { fair = sound-fair h (p .1); lent = p .0 }; sound = s; count = a; largest = b })
+      record { lent = record { fair = sound-fair h (p .1); lent = p .0 }; numbers = p .1; sound = s; count = a; largest = b })
       (λ s. let q : No NotSound ≡ Of n g = rw s at e in let z : _≡_ {A = ℕ} 0 1 = cc in absurd (omega arith))
 
   says-no : (c : Calls.Call) → Opens c ≡ false → {r : Refusal} (v : Checked) → checkedOf (length m) h ≡ v → surveyBy v h m ≡ No r
@@ -154,8 +155,8 @@ module _ (h : Heap) (m : List ℕ) where
 
     pub room-told : outcome Calls.room h m ≡ Calls.told (Room g n) []
     room-told =
-        room-on h m (s .lent .lent) (fair-sound h (s .lent .fair)) ∙ sifted-sound h (holes h m) _ (s .sound) ∙ rw (s .count, s .largest)
+        room-on h m (s .lent .lent) (s .numbers) ∙ sifted-sound h (holes h m) _ (s .sound) ∙ rw (s .count, s .largest)
 
     pub list-told : outcome Calls.list h m ≡ Calls.told (Listed n (size h - h .used)) (holes h m)
     list-told =
-        list-on h m (s .lent .lent) (fair-sound h (s .lent .fair)) ∙ sifted-sound h (holes h m) _ (s .sound) ∙ rw (s .count)
+        list-on h m (s .lent .lent) (s .numbers) ∙ sifted-sound h (holes h m) _ (s .sound) ∙ rw (s .count)

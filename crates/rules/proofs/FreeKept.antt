@@ -17,7 +17,7 @@ use Rattle.rules.specs.Free.{freed, overlaps, eightToHole}
 use Rattle.rules.specs.Calls.{renewed}
 use Rattle.rules.specs.Refusals.{refusal8}
 use Rattle.rules.specs.InWords.{Gap}
-use Rattle.rules.specs.Inner.{Fair, behind}
+use Rattle.rules.specs.Inner.{Fair, Ruled, behind}
 use Rattle.rules.proofs.Walk.{walks, floorOf, walks-head, walks-tail, ends-cases, sound-walk, sound-sum, walk-sound}
 use Rattle.rules.proofs.Floors.{raised-walk}
 use Rattle.rules.proofs.Rises.{sound-rises}
@@ -44,8 +44,8 @@ module _ (h h′ : Heap) (f : Fair h) (f′ : Fair h′) (b : h .bottom ≡ h′
 -- ---- free
 
 -- the numbers on which the walk goes are the same
-pub renewed-fair : (h : Heap) (ks : List Hole) (used : ℕ) → Fair h → Fair (renewed h ks (h .top) (h .pending) used)
-renewed-fair h ks used f = omega arith
+pub renewed-ruled : (h : Heap) (ks : List Hole) (used : ℕ) → Ruled h → Ruled (renewed h ks (h .top) (h .pending) used)
+renewed-ruled h ks used f = omega arith
 
 module _ (h : Heap) (f : Fair h) (ks : List Hole) (g : Hole) (align : ℕ) (pass : any (refusal8 h ks g align) ≡ false) where
   -- so used does not fall below 0
@@ -65,7 +65,7 @@ module _ (h : Heap) (f : Fair h) (ks : List Hole) (g : Hole) (align : ℕ) (pass
       let h′ = renewed h (freed g ks) (h .top) (h .pending) (h .used - g .size) in
       let span : Span h′ g =
       record { at8 = p .at8; size8 = s8; sixteen = s16; to = p .high .0; high = p .high .1 } in
-      freed-sound h h′ f (renewed-fair h (freed g ks) (h .used - g .size) f) refl (inl refl) ks e g span (p .low) (p .clear)
+      freed-sound h h′ f (omega arith) refl (inl refl) ks e g span (p .low) (p .clear)
       (omega (arith, free-room e, sound-sum h f ks e))
 
 -- ---- extend
@@ -82,27 +82,29 @@ clear-top h floor g (k ∷ ks) t w =
     let rest = walks-tail h floor k ks w in
     one-before g k ks (omega arith, λ e. behind-top h k ks rest (omega arith)) (clear-top h (behind k) g ks t rest)
 
-module _ (h : Heap) (f : Fair h) (ks : List Hole) (e : soundHoles h ks ≡ true) (pending : ℕ) (p : pending ≤ 15) where
+module _ (h : Heap) (r : Ruled h) (ks : List Hole) (e : soundHoles h ks ≡ true) (pending : ℕ) (p : pending ≤ 15) where
   -- only pending changes
-  pub gather-fair : h .top .0 + pending ≤ h .base .0 + h .len → Fair (renewed h ks (h .top) pending (h .used))
-  gather-fair l = omega arith
+  pub gather-ruled : h .top .0 + pending ≤ h .base .0 + h .len → Ruled (renewed h ks (h .top) pending (h .used))
+  gather-ruled l = omega arith
 
   pub gather-sound : h .top .0 + pending ≤ h .base .0 + h .len → soundHoles (renewed h ks (h .top) pending (h .used)) ks ≡ true
   gather-sound l =
-      stays-sound h (renewed h ks (h .top) pending (h .used)) f (gather-fair l) refl (inl refl) ks e (sound-sum h f ks e)
+      stays-sound h (renewed h ks (h .top) pending (h .used)) (r .fair) (gather-ruled l .fair) refl (inl refl) ks e
+      (sound-sum h (r .fair) ks e)
 
   -- s bytes become free at top
   module _ (s : ℕ) (s8 : s % grain ≡ 0) (s16 : minSize ≤ s) (l : h .top .0 + s + pending ≤ h .base .0 + h .len) where
-    pub grow-fair : Fair (renewed h (freed (hole (h .top) s) ks) (plus (h .top) s) pending (h .used))
-    grow-fair = omega arith
+    pub grow-ruled : Ruled (renewed h (freed (hole (h .top) s) ks) (plus (h .top) s) pending (h .used))
+    grow-ruled = omega arith
 
     pub grow-sound :
         let new = freed (hole (h .top) s) ks in soundHoles (renewed h new (plus (h .top) s) pending (h .used)) new ≡ true
     grow-sound =
+        let f = r .fair in
         let g = hole (h .top) s in
         let h′ = renewed h (freed g ks) (plus (h .top) s) pending (h .used) in
         let span : Span h′ g =
         record { at8 = f .top8; size8 = s8; sixteen = s16; to = omega arith; high = λ z. omega arith } in
-        freed-sound h h′ f grow-fair refl (inr (omega arith)) ks e g span (omega arith, λ z. omega (arith, z))
+        freed-sound h h′ f (grow-ruled .fair) refl (inr (omega arith)) ks e g span (omega arith, λ z. omega (arith, z))
         (clear-top h (floorOf h ks) g ks refl (sound-walk h f ks e))
         (omega (arith, sound-sum h f ks e))

@@ -20,19 +20,19 @@ use Rattle.rules.specs.Calls.{free, extend, renewed, given, grown, gathe
 use Rattle.rules.specs.Refusals.{unless}
 use Rattle.rules.specs.Behaviour.{ours}
 use Rattle.rules.specs.Statements.{Joined, FreeDoes, ExtendGathers, ExtendGrows}
-use Rattle.rules.specs.Inner.{Fair}
+use Rattle.rules.specs.Inner.{Ruled}
 use Rattle.rules.proofs.Multiples.{below-is}
 use Rattle.rules.proofs.Powers.{power-pos, grain-power}
 use Rattle.rules.proofs.Rises.{sound-rises}
-use Rattle.rules.proofs.SoundWords.{rounds-rounded, fair-words}
+use Rattle.rules.proofs.SoundWords.{rounds-rounded, words-ruled, ruled-words}
 use Rattle.rules.proofs.TestWords.{means-fails, no-span}
 use Rattle.rules.proofs.Good.{good-fair, good-holes, good-rises, good-outcome, valid-passes, renewed-becomes}
-use Rattle.rules.proofs.FreeKept.{renewed-fair, free-room, free-sound, grow-fair, grow-sound}
+use Rattle.rules.proofs.FreeKept.{renewed-ruled, free-room, free-sound, grow-ruled, grow-sound}
 use Rattle.rules.proofs.Vacancy.{freed-vacates}
 
 -- a sound heap with a span among its holes
 freed-joined : (h : Heap) (ks : List Hole) (g : Hole) (top : Addr) (pending used : ℕ)
-    → Fair (renewed h (freed g ks) top pending used)
+    → Ruled (renewed h (freed g ks) top pending used)
     → soundHoles (renewed h (freed g ks) top pending used) (freed g ks) ≡ true
     → Joined h ks (g .addr .0) (g .size) (top .0) pending used (renewed h (freed g ks) top pending used) (freed g ks)
 freed-joined h ks g top pending used f e =
@@ -41,9 +41,9 @@ freed-joined h ks g top pending used f e =
       vacant = λ y v. freed-vacates g ks y .0 v;
       stays = λ y v. freed-vacates g ks y .1 (inl v);
       becomes-free = λ y w. freed-vacates g ks y .1 (inr w);
-      sound = fair-words h′ (freed g ks) f e;
+      sound = ruled-words h′ (freed g ks) f e;
       becomes =
-          renewed-becomes h (freed g ks) top pending used (h .bottom .0) (top .0) (f .bottom) (sound-rises h′ f (freed g ks) e);
+          renewed-becomes h (freed g ks) top pending used (h .bottom .0) (top .0) (f .fair .bottom) (sound-rises h′ (f .fair) (freed g ks) e);
     }
 
 -- ---- free
@@ -61,7 +61,7 @@ free-does h m x s align r g v n =
       new,
       good-outcome (free x s align) h m refl g ∙ rw (valid-passes s align r v, ← is, pass),
       free-room h f ks (hole x r) align pass e,
-      freed-joined h ks (hole x r) (h .top) (h .pending) (h .used - r) (renewed-fair h new (h .used - r) f)
+      freed-joined h ks (hole x r) (h .top) (h .pending) (h .used - r) (renewed-ruled h new (h .used - r) (words-ruled h (g .1 .0)))
           (free-sound h f ks (hole x r) align pass e (v .rounds .multiple) (v .rounds .sixteen)),
     )
 
@@ -82,7 +82,7 @@ pub extend-grows : ExtendGrows ours
 unfolding unless accepted extended grown
 extend-grows h m by s g l large below =
     let ks = holes h m in
-    let f = good-fair h m g in
+    let f = words-ruled h (g .1 .0) in
     let e = good-holes h m g in
     let new = freed (hole (h .top) s) ks in
     let sum = h .pending + by in
@@ -97,6 +97,6 @@ extend-grows h m by s g l large below =
       good-outcome (extend by) h m refl g
           ∙ rw (le-ltb (h .base .0 + h .len) (h .top .0 + h .pending + by) l, le-ltb sum minSize large, ← is, rest, size),
       freed-joined h ks (hole (h .top) s) (plus (h .top) s) (sum - s) (h .used)
-          (grow-fair h f ks e (sum - s) few s (below .multiple) s16 fits)
+          (grow-ruled h f ks e (sum - s) few s (below .multiple) s16 fits)
           (grow-sound h f ks e (sum - s) few s (below .multiple) s16 fits),
     )

@@ -23,9 +23,10 @@ pub mod Used
 -- the freed span: where it goes and what it joins, what stands against it
 pub mod Freed
 pub mod Clear
--- the order of the tests, and what each call comes to behind them
+-- the order of the tests, and what each call comes to behind them; what it decides to write
 pub mod Decide
 pub mod Calls
+pub mod Written
 -- the demands: soundness, what the bytes hold and the tests in the paper's words
 pub mod SoundWords
 pub mod HoldWords

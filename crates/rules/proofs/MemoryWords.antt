@@ -25,7 +25,7 @@ use Rattle.rules.proofs.SoundKept.{Stands, outcome-keeps}
 pub stands-read : (h : Heap) (m : List ℕ) (ks : List Hole) → Stands (length m) h ks → h .first ≡ firstOf (h .base) ks
     → holes h (putHeads (h .base) ks m) ≡ ks
 stands-read h m ks st e =
-    let f = st .fair in
+    let f = st .ruled .fair in
     let count = sound-count h f ks (st .sound) in
     let few : length ks ≤ suc (most h) = omega arith in
     rw (holes-read h (putHeads (h .base) ks m) f, e)

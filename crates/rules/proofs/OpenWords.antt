@@ -19,7 +19,7 @@ use Rattle.rules.specs.Refusals.{refusal1, tests, unless}
 use Rattle.rules.specs.Outcome.{decided, outcome}
 use Rattle.rules.specs.Behaviour.{ours}
 use Rattle.rules.specs.Statements.{OpenDoes}
-use Rattle.rules.specs.Inner.{Fair}
+use Rattle.rules.specs.Inner.{Ruled}
 use Rattle.rules.proofs.Cases.{both, any-each, each-all}
 use Rattle.rules.proofs.SoundWords.{left-is}
 use Rattle.rules.proofs.Gaps.{words-gap}
@@ -37,9 +37,9 @@ open-does h m base named bottom s e n l =
 -- ---- the heap that it leaves
 
 module _ (len : ℕ) (base : Addr) (named : ℕ) (pass : any (refusal1 len base named) ≡ false) where
-  pub opened-fair : Fair (opened len base named)
+  pub opened-ruled : Ruled (opened len base named)
   unfolding opened
-  opened-fair =
+  opened-ruled =
       let r = any-each (refusal1 len base named) pass in
       let n = eqb-false (base .0) 0 (r .0) in
       omega (arith, ltb-false, n)

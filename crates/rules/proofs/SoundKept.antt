@@ -23,19 +23,19 @@ use Rattle.rules.specs.Outcome.{decided, outcome}
 use Rattle.rules.specs.Runs.{Fits}
 use Rattle.rules.specs.Behaviour.{ours}
 use Rattle.rules.specs.Statements.{SoundKept}
-use Rattle.rules.specs.Inner.{Fair}
+use Rattle.rules.specs.Inner.{Ruled}
 use Rattle.rules.proofs.Cases.{by-test, and-left, and-right, or-left}
 use Rattle.rules.proofs.Layouts.{rounded-multiple, rounded-least, layout-passed}
-use Rattle.rules.proofs.Walk.{sound-fair, sound-count}
-use Rattle.rules.proofs.SoundWords.{fair-words}
+use Rattle.rules.proofs.Walk.{sound-ruled, sound-count}
+use Rattle.rules.proofs.SoundWords.{ruled-words}
 use Rattle.rules.proofs.AllocateKept.{allocate-kept}
-use Rattle.rules.proofs.FreeKept.{renewed-fair, free-sound, gather-fair, gather-sound, grow-fair, grow-sound}
-use Rattle.rules.proofs.OpenWords.{opened-fair, opened-sound}
+use Rattle.rules.proofs.FreeKept.{renewed-ruled, free-sound, gather-ruled, gather-sound, grow-ruled, grow-sound}
+use Rattle.rules.proofs.OpenWords.{opened-ruled, opened-sound}
 use Rattle.rules.proofs.Passes.{Passes, by-decided}
 
 -- a sound heap, lent as many bytes as it was opened with
 pub record Stands (len : ℕ) (h : Heap) (ks : List Hole) : Type 0 where
-  pub fair : Fair h
+  pub ruled : Ruled h
   pub sound : soundHoles h ks ≡ true
   pub arena : len ≡ h .len
 
@@ -51,7 +51,7 @@ unfolding sound
 passed-stands len h ks p q =
     let s = not-false (sound h ks) (or-left _ _ q) in
     record {
-      fair = sound-fair h (and-left (soundNumbers h) (soundHoles h ks) s);
+      ruled = sound-ruled h (and-left (soundNumbers h) (soundHoles h ks) s);
       sound = and-right (soundNumbers h) (soundHoles h ks) s;
       arena = eqb-true len (h .len) (not-false (eqb len (h .len)) (or-left _ _ p));
     }
@@ -64,8 +64,8 @@ module _ (len : ℕ) (h : Heap) (ks : List Hole) (st : Stands len h ks) where
   unfolding given
   given-keeps s x align s8 s16 pass = (
     record {
-      fair = renewed-fair h (freed (hole x s) ks) (h .used - s) (st .fair);
-      sound = free-sound h (st .fair) ks (hole x s) align pass (st .sound) s8 s16;
+      ruled = renewed-ruled h (freed (hole x s) ks) (h .used - s) (st .ruled);
+      sound = free-sound h (st .ruled .fair) ks (hole x s) align pass (st .sound) s8 s16;
       arena = st .arena;
     },
     refl,
@@ -74,7 +74,7 @@ module _ (len : ℕ) (h : Heap) (ks : List Hole) (st : Stands len h ks) where
   extended-keeps : (by : ℕ) → h .top .0 + h .pending + by ≤ h .base .0 + h .len → Keeps len (extended by h ks)
   unfolding extended gathered grown
   extended-keeps by l =
-      let f = st .fair in
+      let f = st .ruled in
       let sum = h .pending + by in
       let s = downTo grain sum in
       by-test (Keeps len) (ltb sum minSize) _ _
@@ -82,7 +82,7 @@ module _ (len : ℕ) (h : Heap) (ks : List Hole) (st : Stands len h ks) where
       let p : sum ≤ 15 = omega (arith, ltb-true sum minSize e) in
       let fits : h .top .0 + sum ≤ h .base .0 + h .len = omega arith in (
         record {
-          fair = gather-fair h f ks (st .sound) sum p fits;
+          ruled = gather-ruled h f ks (st .sound) sum p fits;
           sound = gather-sound h f ks (st .sound) sum p fits;
           arena = st .arena;
         },
@@ -94,7 +94,7 @@ module _ (len : ℕ) (h : Heap) (ks : List Hole) (st : Stands len h ks) where
       let s16 : minSize ≤ s = omega (arith, ltb-false sum minSize e) in
       let fits : h .top .0 + s + sum % grain ≤ h .base .0 + h .len = omega arith in (
         record {
-          fair = grow-fair h f ks (st .sound) (sum % grain) p s s8 s16 fits;
+          ruled = grow-ruled h f ks (st .sound) (sum % grain) p s s8 s16 fits;
           sound = grow-sound h f ks (st .sound) (sum % grain) p s s8 s16 fits;
           arena = st .arena;
         },
@@ -107,8 +107,8 @@ module _ (len : ℕ) (h : Heap) (ks : List Hole) (st : Stands len h ks) where
   taken-keeps s align nothing p s8 s16 e = tt
   taken-keeps s align (found front k back) p s8 s16 e = (
     record {
-      fair = renewed-fair h (front ++ (split s align k ++ back)) (h .used + s) (st .fair);
-      sound = allocate-kept h s align ks front back k (st .fair) p s8 s16 (st .sound) e;
+      ruled = renewed-ruled h (front ++ (split s align k ++ back)) (h .used + s) (st .ruled);
+      sound = allocate-kept h s align ks front back k (st .ruled .fair) p s8 s16 (st .sound) e;
       arena = st .arena;
     },
     refl,
@@ -118,7 +118,7 @@ accepted-keeps : (c : Call) (len : ℕ) (h : Heap) (ks : List Hole) → Fits c �
 unfolding tests accepted
 accepted-keeps (opening base named) len h ks f p = (
   record {
-    fair = opened-fair len base named (p .1 .0);
+    ruled = opened-ruled len base named (p .1 .0);
     sound = opened-sound len base named (p .1 .0);
     arena = unfold opened in refl;
   },
@@ -146,4 +146,4 @@ outcome-keeps c h m f = decided-keeps c (length m) h (holes h m) f
 pub sound-kept : SoundKept ours
 sound-kept c h m a h′ ks f e =
     let st = (rw e at (outcome-keeps c h m f)) .0 in
-    (fair-words h′ ks (st .fair) (st .sound), sound-count h′ (st .fair) ks (st .sound))
+    (ruled-words h′ ks (st .ruled) (st .sound), sound-count h′ (st .ruled .fair) ks (st .sound))

@@ -20,13 +20,13 @@ use Rattle.rules.specs.Calls.{left, onlyHole}
 use Rattle.rules.specs.InWords.{Gap, endOf, sum, SoundNumbers, SoundHole, SoundHoles, Sound, Rounds, Left}
 use Rattle.rules.specs.Behaviour.{ours}
 use Rattle.rules.specs.Statements.{SoundMeans}
-use Rattle.rules.specs.Inner.{Fair}
+use Rattle.rules.specs.Inner.{Fair, Ruled}
 use Rattle.rules.proofs.Cases.{and-left, and-right, both, last, all-each, each-all}
 use Rattle.rules.proofs.Gaps.{gap-words, words-gap}
 use Rattle.rules.proofs.Multiples.{up-is, above-is, down-is, below-is}
 use Rattle.rules.proofs.Powers.{power-pos, grain-power}
 use Rattle.rules.proofs.Layouts.{rounded-is, is-rounded}
-use Rattle.rules.proofs.Walk.{sound-fair, fair-sound}
+use Rattle.rules.proofs.Walk.{sound-ruled, ruled-sound}
 
 -- ---- the roundings
 
@@ -68,27 +68,31 @@ is-left base named =
 pub numbers-words : (h : Heap) → soundNumbers h ≡ true → SoundNumbers h
 unfolding soundNumbers
 numbers-words h e =
-    let f = sound-fair h e in
+    let q = sound-ruled h e in
+    let f = q .fair in
     let r = all-each (numberRules h) e in
     let b : h .bottom .0 ≡ upTo grain (h .base .0) = eqb-true (h .bottom .0) (upTo grain (h .base .0)) (r .1 .1 .1 .0) in
     record {
       base = f .base;
-      arena = f .small;
+      arena = q .small;
       low = f .low;
       bottom = rw b (up-is grain (h .base .0) (power-pos grain-power));
       eight = omega arith;
       sixteen = f .room;
-      pending = f .pending;
+      pending = q .pending;
       fits = f .fits;
     }
 
-pub words-fair : (h : Heap) → SoundNumbers h → Fair h
-words-fair h p =
+pub words-ruled : (h : Heap) → SoundNumbers h → Ruled h
+words-ruled h p =
     let b : h .bottom .0 ≡ upTo grain (h .base .0) = above-is (power-pos grain-power) (p .bottom) in
     omega arith
 
+pub words-fair : (h : Heap) → SoundNumbers h → Fair h
+words-fair h p = words-ruled h p .fair
+
 pub words-numbers : (h : Heap) → SoundNumbers h → soundNumbers h ≡ true
-words-numbers h p = fair-sound h (words-fair h p)
+words-numbers h p = ruled-sound h (words-ruled h p)
 
 -- ---- the rules on the holes
 
@@ -204,8 +208,8 @@ pub words-sound : (h : Heap) (ks : List Hole) → Sound h ks → sound h ks ≡ 
 unfolding sound
 words-sound h ks p = both (words-numbers h (p .0)) (words-holes h ks (p .1))
 
-pub fair-words : (h : Heap) (ks : List Hole) → Fair h → soundHoles h ks ≡ true → Sound h ks
-fair-words h ks f e = (numbers-words h (fair-sound h f), holes-words h ks e)
+pub ruled-words : (h : Heap) (ks : List Hole) → Ruled h → soundHoles h ks ≡ true → Sound h ks
+ruled-words h ks r e = (numbers-words h (ruled-sound h r), holes-words h ks e)
 
 pub sound-means : SoundMeans ours
 sound-means h ks = (sound-words h ks, words-sound h ks)

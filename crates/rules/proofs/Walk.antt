@@ -17,19 +17,22 @@ use Rattle.rules.specs.Kinds.{plus, same, notAfter}
 use Rattle.rules.specs.Holes.{end, total}
 use Rattle.rules.specs.Sound.{size, numberRules, soundNumbers, gap, holeRules, lie, rise, leaveBefore, leaveAfter, listRules, soundHoles, most}
 use Rattle.rules.specs.InWords.{Gap}
-use Rattle.rules.specs.Inner.{Fair, headRules, behind, ends}
+use Rattle.rules.specs.Inner.{Fair, Ruled, headRules, behind, ends}
 use Rattle.rules.proofs.Cases.{cases, iff, by-test, and-left, and-right, both, last, all-each, each-all}
 use Rattle.rules.proofs.Gaps.{gap-words, words-gap, gap-le, gap-apart}
 
 -- ---- the rules on the numbers, as numbers
 
-pub sound-fair : (h : Heap) → soundNumbers h ≡ true → Fair h
+pub sound-ruled : (h : Heap) → soundNumbers h ≡ true → Ruled h
 unfolding soundNumbers
-sound-fair h e = let r = all-each (numberRules h) e in omega (arith, leb-true, eqb-true)
+sound-ruled h e = let r = all-each (numberRules h) e in omega (arith, leb-true, eqb-true)
 
-pub fair-sound : (h : Heap) → Fair h → soundNumbers h ≡ true
+pub ruled-sound : (h : Heap) → Ruled h → soundNumbers h ≡ true
 unfolding soundNumbers
-fair-sound h f = each-all (numberRules h) (omega (arith, le-leb, eq-eqb))
+ruled-sound h f = each-all (numberRules h) (omega (arith, le-leb, eq-eqb))
+
+pub sound-fair : (h : Heap) → soundNumbers h ≡ true → Fair h
+sound-fair h e = sound-ruled h e .fair
 
 -- ---- the walk
 

@@ -10,14 +10,20 @@ use Rattle.rules.specs.declared.Addr.{Addr}
 use Rattle.rules.specs.declared.Place.{Place}
 use Rattle.rules.specs.declared.Hole.{Hole}
 use Rattle.rules.specs.declared.Heap.{Heap}
+use Rattle.rules.specs.declared.Write.{Write}
+use Rattle.rules.specs.declared.Writes.{Writes}
+use Rattle.rules.specs.declared.Decided.{Decided}
+use Rattle.rules.specs.declared.Refusal.{Refusal}
 use Rattle.rules.specs.declared.Refusal.the-variants.{NotSound, BadSpan, PastArena}
+use Rattle.rules.specs.declared.Answer.the-variants.{Refused}
 use Rattle.rules.specs.Fixed.{minSize, grain, arenaLimit, addrLimit}
 use Rattle.rules.specs.Tests.{any}
-use Rattle.rules.specs.Kinds.{plus, same, notAfter, multipleOf, placeOf}
-use Rattle.rules.specs.Holes.{hole, end, putHead}
+use Rattle.rules.specs.Kinds.{plus, same, notAfter, multipleOf, placeOf, none, isNone}
+use Rattle.rules.specs.Holes.{hole, end, putHead, firstOf, putHeads}
 use Rattle.rules.specs.Sound.{soundHoles}
 use Rattle.rules.specs.Calls.{Outcome, refused, given, extended}
 use Rattle.rules.specs.Refusals.{refusal8, refusal9}
+use Rattle.rules.specs.Outcome.{After}
 
 -- ---- memory
 
@@ -36,20 +42,65 @@ putHeadsTo base [] q m = m
 putHeadsTo base (k ∷ ks) q m =
     putHead (putHeadsTo base ks q m) (placeOf base (k .addr)) (record { size = k .size; next = firstOr base ks q })
 
+-- ---- heads that a call decides to write
+
+-- a head written at its place; at none, nothing is
+unfoldable pub put : Write → List ℕ → List ℕ
+put w m = cond (isNone (w .at)) m (putHead m (w .at) (w .head))
+
+abbrev pub write : Place → ℕ → Place → Write
+write at size next = record { at = at; head = record { size = size; next = next } }
+
+abbrev pub nothing : Write
+nothing = write none 0 none
+
+-- the one, then the other
+unfoldable pub written : Writes → List ℕ → List ℕ
+written ws m = put (ws .two) (put (ws .one) m)
+
+-- a head that is written lies in the arena
+abbrev pub Inside : List ℕ → Write → Type 0
+Inside m w = (w .at .0 ≡ none .0 → ⊥) → w .at .0 + minSize ≤ length m
+
+-- writing these heads leaves that arena
+pub record Leaves (m : List ℕ) (ws : Writes) (m′ : List ℕ) : Type 0 where
+  pub one : Inside m (ws .one)
+  pub two : Inside m (ws .two)
+  pub arena : written ws m ≡ m′
+
+-- what a refused call decides
+abbrev pub refusing : Heap → Refusal → Decided
+refusing h r = record { heap = h; answer = Refused r; heads = record { one = nothing; two = nothing } }
+
+-- the list of holes becomes ks: its first place, and the heads to be written
+pub record Relinks (base : Addr) (m : List ℕ) (ks : List Hole) (p : Place) (ws : Writes) : Type 0 where
+  pub first : p ≡ firstOf base ks
+  pub heads : Leaves m ws (putHeads base ks m)
+
+-- a decision on the arena m is what the definition says
+pub record Decides (a : After) (m : List ℕ) (d : Decided) : Type 0 where
+  pub answer : d .answer ≡ a .answer
+  pub heap : d .heap ≡ a .heap
+  pub heads : Leaves m (d .heads) (a .arena)
+
 -- ---- the rules, as a walk meets them
 
--- the rules on the numbers, as numbers
+-- what the leaves ask of a heap's numbers: wherever bottom lies behind base, and however long the arena is
 pub record Fair (h : Heap) : Type 0 where
   pub base : 1 ≤ h .base .0
-  pub small : h .len ≤ arenaLimit
   pub low : h .base .0 + h .len ≤ addrLimit
   pub bottom : h .base .0 ≤ h .bottom .0
-  pub near : h .bottom .0 < h .base .0 + grain
   pub bottom8 : h .bottom .0 % grain ≡ 0
   pub top8 : h .top .0 % grain ≡ 0
   pub room : h .bottom .0 + minSize ≤ h .top .0
-  pub pending : h .pending ≤ 15
   pub fits : h .top .0 + h .pending ≤ h .base .0 + h .len
+
+-- all of the rules on the numbers, as numbers
+pub record Ruled (h : Heap) : Type 0 where
+  pub fair : Fair h
+  pub small : h .len ≤ arenaLimit
+  pub near : h .bottom .0 < h .base .0 + grain
+  pub pending : h .pending ≤ 15
 
 -- numbers that keep their rules, and an arena of the length that they say
 pub record Lent (h : Heap) (m : List ℕ) : Type 0 where

@@ -88,3 +88,23 @@ pub struct Done {
     pub heap: Heap,
     pub answer: Answer,
 }
+
+// A head to be written, and its place; where that is none, nothing is written.
+pub struct Write {
+    pub at: Place,
+    pub head: Head,
+}
+
+// The heads that change, at most two: first the one is written, then the other.
+pub struct Writes {
+    pub one: Write,
+    pub two: Write,
+}
+
+// What a call decides on an arena as it stands: the heap and the answer that it gives back, and the
+// heads to be written.
+pub struct Decided {
+    pub heap: Heap,
+    pub answer: Answer,
+    pub heads: Writes,
+}

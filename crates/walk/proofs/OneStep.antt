@@ -90,21 +90,18 @@ module _ (h : Heap) (m : List ℕ) (at : Place) (floor : Addr) where
   unfolding stepOf
   ended e = rw (eq-eqb (at .0) (none .0) e)
 
-  module _ (some : at .0 ≡ none .0 → ⊥) (d : Head) (is : d ≡ headAt m at) where
-    abbrev found : Hole
-    found = hole (addrOf (h .base) at) (d .size)
-
-    headed : headOf h floor found (d .next) ≡ stepOf h m at floor
+  module _ (some : at .0 ≡ none .0 → ⊥) {a : Addr} {d : Head} (reached : a ≡ addrOf (h .base) at) (read : d ≡ headAt m at) where
+    headed : headOf h floor (hole a (d .size)) (d .next) ≡ stepOf h m at floor
     unfolding stepOf
-    headed = rw (is, ne-eqb (at .0) (none .0) some)
+    headed = rw (reached, read, ne-eqb (at .0) (none .0) some)
 
-    pub kept : Keeps h floor found → step.At found (d .next) ≡ stepOf h m at floor
+    pub kept : Keeps h floor (hole a (d .size)) → step.At (hole a (d .size)) (d .next) ≡ stepOf h m at floor
     unfolding headOf
-    kept r = rw (keep-rules h floor found r) at headed
+    kept r = rw (keep-rules h floor (hole a (d .size)) r) at headed
 
-    pub broken : (Keeps h floor found → ⊥) → step.Bad ≡ stepOf h m at floor
+    pub broken : (Keeps h floor (hole a (d .size)) → ⊥) → step.Bad ≡ stepOf h m at floor
     unfolding headOf
     broken n =
-        cases (all (headRules h floor found))
-        (λ e. absurd (n (rules-keep h floor found e)))
+        cases (all (headRules h floor (hole a (d .size))))
+        (λ e. absurd (n (rules-keep h floor (hole a (d .size)) e)))
         (λ e. rw e at headed)

@@ -1,5 +1,7 @@
 // One step of the walk: the floor that it starts with, and the floor behind a hole.
 use crate::Step;
+use hole::addr_of;
+use hole::place_of;
 use hole::read_head;
 use rules::Addr;
 use rules::GRAIN;
@@ -22,11 +24,11 @@ pub fn first_floor(h: Heap) -> Addr
     requires { ⌜ Fair h ⌝ }
     ensures { λ r. ⌜ r ≡ startOf h ⌝ }
 {
-    let bottom = h.bottom.0;
-    if h.first.0 == bottom - h.base.0 {
-        return Addr(bottom);
+    let bottom = h.bottom;
+    if h.first.0 == place_of(h.base, bottom).0 {
+        return bottom;
     }
-    Addr(bottom + MIN_SIZE)
+    Addr(bottom.0 + MIN_SIZE)
 }
 
 // The floor behind a hole: the next one lies at least 16 bytes behind its end.
@@ -59,38 +61,31 @@ pub fn next(h: Heap, arena: &[u8], at: Place, floor: Addr) -> Step
     requires { ⌜ Lent h (now arena) ⌝ }
     ensures { λ r. ⌜ r ≡ stepOf h (now (arena .entry)) at floor ⌝ }
 {
-    let base = h.base.0;
-    let top = h.top.0;
-    let p = at.0;
-    if top - base - MIN_SIZE < p {
-        if p == NONE {
+    let base = h.base;
+    let top = h.top;
+    if place_of(base, top).0 - MIN_SIZE < at.0 {
+        if at.0 == NONE {
             return last(h, floor);
         }
         return Step::Bad;
     }
     let head = read_head(arena, at);
-    let addr = base + p;
+    let addr = addr_of(base, at);
     let size = head.size;
-    if addr < floor.0 {
+    if addr.0 < floor.0 {
         return Step::Bad;
     }
-    if (addr | size) % GRAIN != 0 {
+    if (addr.0 | size) % GRAIN != 0 {
         return Step::Bad;
     }
     if size < MIN_SIZE {
         return Step::Bad;
     }
-    if top - addr < size {
+    if top.0 - addr.0 < size {
         return Step::Bad;
     }
     let next = head.next;
-    Step::At(
-        Hole {
-            addr: Addr(addr),
-            size,
-        },
-        next,
-    )
+    Step::At(Hole { addr, size }, next)
 }
 
 // A step that found no hole has come to the end, and to no broken rule.

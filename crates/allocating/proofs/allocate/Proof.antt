@@ -3,9 +3,8 @@ use mathlib.Core.Path.{refl, sym, _∙_}
 use borrow.Author.Needs.{needs}
 use Rattle.rules.specs.Calls.{allocate}
 use Rattle.rules.specs.declared.Refusal.the-variants.{BadLayout}
-use Rattle.rules.proofs.Walk.{fair-sound}
 use Rattle.rules.proofs.Calls.{is-left, allocate-6, allocate-on}
-use Rattle.numbers.proofs.Verdicts.{tested-lent, tested-no}
+use Rattle.numbers.proofs.Verdicts.{tested-lent, tested-numbers, tested-no}
 use Rattle.hole_list.proofs.Requests.{tested-bad, tested-asked}
 use Rattle.hole_list.proofs.Sifted.{later-is}
 use Rattle.allocating.proofs.allocate.Statement.{statement}
@@ -64,7 +63,7 @@ returns-2 c =
     let s = a .before .before .before .before in
     let l = tested-lent (s .args .h) (s .args .arena .now) (a .before .arena-len .ensures .0) (a .check .ensures) (k .match .keys2) in
     let e = tested-bad (s .args .size) (s .args .align) (y .before .align-layout .ensures) (y .match2 .keys2) in
-    let no = allocate-6 (s .args .h) (s .args .arena .now) (l .lent) (fair-sound (s .args .h) (l .fair)) (s .args .size) (s .args .align) e in
+    let no = allocate-6 (s .args .h) (s .args .arena .now) (l .lent) (tested-numbers (s .args .h) (s .args .arena .now) (a .before .arena-len .ensures .0) (a .check .ensures) (k .match .keys2)) (s .args .size) (s .args .align) e in
     later-is (allocate (s .args .size) (s .args .align)) (s .args .h) (s .args .arena .now) BadLayout no (c .refuse-sound .ensures)
 
 allocate-first-fit-requires : tie.Need-allocate-first-fit-requires
@@ -88,7 +87,7 @@ returns-3 c =
     let s = a .before .before .before .before in
     let l = tested-lent (s .args .h) (s .args .arena .now) (a .before .arena-len .ensures .0) (a .check .ensures) (k .match .keys2) in
     let e = sym (y .before .before .align-layout .ensures) ∙ y .layout .given .1 in
-    let on = allocate-on (s .args .h) (s .args .arena .now) (l .lent) (fair-sound (s .args .h) (l .fair)) (s .args .size) (s .args .align) e in
+    let on = allocate-on (s .args .h) (s .args .arena .now) (l .lent) (tested-numbers (s .args .h) (s .args .arena .now) (a .before .arena-len .ensures .0) (a .check .ensures) (k .match .keys2)) (s .args .size) (s .args .align) e in
     is-left (allocate (s .args .size) (s .args .align)) (s .args .h) (s .args .arena .now) _ on (c .before .before .allocate-first-fit .ensures)
 
 pub allocate-spec : {M : Type 1} → statement M

@@ -2,9 +2,8 @@
 use mathlib.Core.Path.{refl}
 use borrow.Author.Needs.{needs}
 use Rattle.rules.specs.Calls.{extend}
-use Rattle.rules.proofs.Walk.{fair-sound}
 use Rattle.rules.proofs.Calls.{is-left, extend-on}
-use Rattle.numbers.proofs.Verdicts.{tested-lent, tested-no}
+use Rattle.numbers.proofs.Verdicts.{tested-lent, tested-numbers, tested-no}
 use Rattle.extending.proofs.extend.Statement.{statement}
 use Rattle.extending.proofs.extend.Tie as tie
 
@@ -51,7 +50,7 @@ returns-2 c =
     let a = k .before in
     let s = a .before .before .before .before in
     let l = tested-lent (s .args .h) (s .args .arena .now) (a .before .arena-len .ensures .0) (a .check .ensures) (k .match .keys2) in
-    let on = extend-on (s .args .h) (s .args .arena .now) (l .lent) (fair-sound (s .args .h) (l .fair)) (s .args .by) in
+    let on = extend-on (s .args .h) (s .args .arena .now) (l .lent) (tested-numbers (s .args .h) (s .args .arena .now) (a .before .arena-len .ensures .0) (a .check .ensures) (k .match .keys2)) (s .args .by) in
     is-left (extend (s .args .by)) (s .args .h) (s .args .arena .now) _ on (c .before .before .extend .ensures)
 
 pub extend-spec : {M : Type 1} → statement M

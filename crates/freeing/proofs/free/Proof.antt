@@ -3,9 +3,8 @@ use mathlib.Core.Path.{refl, sym, _∙_}
 use borrow.Author.Needs.{needs}
 use Rattle.rules.specs.Calls.{free}
 use Rattle.rules.specs.declared.Refusal.the-variants.{BadLayout}
-use Rattle.rules.proofs.Walk.{fair-sound}
 use Rattle.rules.proofs.Calls.{is-left, free-6, free-on}
-use Rattle.numbers.proofs.Verdicts.{tested-lent, tested-no}
+use Rattle.numbers.proofs.Verdicts.{tested-lent, tested-numbers, tested-no}
 use Rattle.hole_list.proofs.Requests.{tested-bad, tested-asked}
 use Rattle.hole_list.proofs.Sifted.{later-is}
 use Rattle.freeing.proofs.free.Statement.{statement}
@@ -64,7 +63,7 @@ returns-2 c =
     let s = a .before .before .before .before in
     let l = tested-lent (s .args .h) (s .args .arena .now) (a .before .arena-len .ensures .0) (a .check .ensures) (k .match .keys2) in
     let e = tested-bad (s .args .size) (s .args .align) (y .before .align-layout .ensures) (y .match2 .keys2) in
-    let no = free-6 (s .args .h) (s .args .arena .now) (l .lent) (fair-sound (s .args .h) (l .fair)) (s .args .addr) (s .args .size) (s .args .align) e in
+    let no = free-6 (s .args .h) (s .args .arena .now) (l .lent) (tested-numbers (s .args .h) (s .args .arena .now) (a .before .arena-len .ensures .0) (a .check .ensures) (k .match .keys2)) (s .args .addr) (s .args .size) (s .args .align) e in
     later-is (free (s .args .addr) (s .args .size) (s .args .align)) (s .args .h) (s .args .arena .now) BadLayout no (c .refuse-sound .ensures)
 
 deallocate-requires : tie.Need-deallocate-requires
@@ -88,7 +87,7 @@ returns-3 c =
     let s = a .before .before .before .before in
     let l = tested-lent (s .args .h) (s .args .arena .now) (a .before .arena-len .ensures .0) (a .check .ensures) (k .match .keys2) in
     let e = sym (y .before .before .align-layout .ensures) ∙ y .layout .given .1 in
-    let on = free-on (s .args .h) (s .args .arena .now) (l .lent) (fair-sound (s .args .h) (l .fair)) (s .args .addr) (s .args .size) (s .args .align) e in
+    let on = free-on (s .args .h) (s .args .arena .now) (l .lent) (tested-numbers (s .args .h) (s .args .arena .now) (a .before .arena-len .ensures .0) (a .check .ensures) (k .match .keys2)) (s .args .addr) (s .args .size) (s .args .align) e in
     is-left (free (s .args .addr) (s .args .size) (s .args .align)) (s .args .h) (s .args .arena .now) _ on (c .before .before .deallocate .ensures)
 
 pub free-spec : {M : Type 1} → statement M

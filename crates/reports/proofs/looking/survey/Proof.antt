@@ -1,7 +1,7 @@
 -- `reports::looking::survey` meets its contract: the tests, then a walk to the end, decide 3, 4 and 5. Assumes nothing.
 use mathlib.Core.Path.{sym, _∙_}
 use borrow.Author.Needs.{needs}
-use Rattle.numbers.proofs.Verdicts.{tested-lent}
+use Rattle.numbers.proofs.Verdicts.{tested-lent, tested-numbers}
 use Rattle.reports.proofs.Surveyed.{walk-asks, walk-all, walk-broken, walk-sum, walk-found, survey-no, survey-broken, survey-sound}
 use Rattle.reports.proofs.looking.survey.Statement.{statement}
 use Rattle.reports.proofs.looking.survey.Tie as tie
@@ -53,7 +53,7 @@ returns-2 c =
     let s = a .before .before .before in
     let l = tested-lent (s .args .h) (s .args .arena .now) (a .before .arena-len .ensures .0) (a .check .ensures) (k .match .keys2) in
     let all = walk-all (s .args .h) (s .args .arena .now) l (w .before .first-floor .ensures) (w .walk .ensures) in
-    survey-broken (s .args .h) (s .args .arena .now) l (walk-broken (s .args .h) (s .args .arena .now) l all (c .before .match2 .keys2))
+    survey-broken (s .args .h) (s .args .arena .now) l (tested-numbers (s .args .h) (s .args .arena .now) (a .before .arena-len .ensures .0) (a .check .ensures) (k .match .keys2)) (walk-broken (s .args .h) (s .args .arena .now) l all (c .before .match2 .keys2))
 
 sums-up-requires : tie.Need-sums-up-requires
 sums-up-requires c κs =
@@ -72,7 +72,7 @@ returns-3 c =
     let l = tested-lent (s .args .h) (s .args .arena .now) (a .before .arena-len .ensures .0) (a .check .ensures) (k .match .keys2) in
     let all = walk-all (s .args .h) (s .args .arena .now) l (w .before .first-floor .ensures) (w .walk .ensures) in
     let e = walk-sum (s .args .h) (s .args .arena .now) l all (y .walked .given .1) ∙ sym (c .before .sums-up .ensures) ∙ c .if1 .taken in
-    survey-sound (s .args .h) (s .args .arena .now) l e (walk-found (s .args .h) (s .args .arena .now) l all (y .walked .given .1) e)
+    survey-sound (s .args .h) (s .args .arena .now) l (tested-numbers (s .args .h) (s .args .arena .now) (a .before .arena-len .ensures .0) (a .check .ensures) (k .match .keys2)) e (walk-found (s .args .h) (s .args .arena .now) l all (y .walked .given .1) e)
 
 returns-4 : tie.Need-returns-4
 returns-4 c =
@@ -83,7 +83,7 @@ returns-4 c =
     let s = a .before .before .before in
     let l = tested-lent (s .args .h) (s .args .arena .now) (a .before .arena-len .ensures .0) (a .check .ensures) (k .match .keys2) in
     let all = walk-all (s .args .h) (s .args .arena .now) l (w .before .first-floor .ensures) (w .walk .ensures) in
-    survey-broken (s .args .h) (s .args .arena .now) l
+    survey-broken (s .args .h) (s .args .arena .now) l (tested-numbers (s .args .h) (s .args .arena .now) (a .before .arena-len .ensures .0) (a .check .ensures) (k .match .keys2))
     (walk-sum (s .args .h) (s .args .arena .now) l all (y .walked .given .1) ∙ sym (c .before .sums-up .ensures) ∙ c .if1 .left)
 
 pub survey-spec : {M : Type 1} → statement M

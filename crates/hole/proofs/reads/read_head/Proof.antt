@@ -1,8 +1,8 @@
--- `hole::read_head` meets its contract: a head is two words. Assumes nothing.
+-- `hole::reads::read_head` meets its contract: a head is two words. Assumes nothing.
 use borrow.Author.Needs.{needs}
 use Rattle.rules.specs.Holes.{headAt}
-use Rattle.hole.proofs.read_head.Statement.{statement}
-use Rattle.hole.proofs.read_head.Tie as tie
+use Rattle.hole.proofs.reads.read_head.Statement.{statement}
+use Rattle.hole.proofs.reads.read_head.Tie as tie
 
 read-word-requires : tie.Need-read-word-requires
 read-word-requires c κs = search needs

@@ -1,8 +1,8 @@
--- `hole::make_hole` meets its contract: a head is two words, written one after the other. Assumes nothing.
+-- `hole::writes::make_hole` meets its contract: a head is two words, written one after the other. Assumes nothing.
 use borrow.Author.Needs.{needs}
 use Rattle.rules.specs.Holes.{putHead}
-use Rattle.hole.proofs.make_hole.Statement.{statement}
-use Rattle.hole.proofs.make_hole.Tie as tie
+use Rattle.hole.proofs.writes.make_hole.Statement.{statement}
+use Rattle.hole.proofs.writes.make_hole.Tie as tie
 
 put-word-requires : tie.Need-put-word-requires
 put-word-requires c κs = search needs

@@ -1,11 +1,11 @@
--- `hole::arena_len` meets its contract: an empty arena has no byte to ask about, and of another one every byte is known by its type.
+-- `hole::reads::arena_len` meets its contract: an empty arena has no byte to ask about, and of another one every byte is known by its type.
 -- Assumes nothing.
 use Prim.Native.Nat.{_≤_}
 use native.Mathlib.Omega.{arith}
 use lib.ListN.{length, List·getD-eq-default}
 use borrow.Author.Needs.{needs}
-use Rattle.hole.proofs.arena_len.Statement.{statement}
-use Rattle.hole.proofs.arena_len.Tie as tie
+use Rattle.hole.proofs.reads.arena_len.Statement.{statement}
+use Rattle.hole.proofs.reads.arena_len.Tie as tie
 
 returns : tie.Need-returns
 returns c =

@@ -1,4 +1,4 @@
--- `hole::put_word` meets its contract: what is left to write, written into the bytes as they are, always gives the bytes wanted.
+-- `hole::writes::put_word` meets its contract: what is left to write, written into the bytes as they are, always gives the bytes wanted.
 -- Assumes nothing.
 use mathlib.Core.Path.{_≡_, refl, _∙_}
 use mathlib.Core.List.{List}
@@ -6,8 +6,8 @@ use Prim.Native.Nat.{ℕ, suc, _+_, _-_, _/_, _%_, _≤_, _<_}
 use native.Mathlib.Omega.{arith}
 use lib.ListN.{length, set, length-set}
 use Rattle.rules.specs.Words.{store}
-use Rattle.hole.proofs.put_word.Statement.{statement}
-use Rattle.hole.proofs.put_word.Tie as tie
+use Rattle.hole.proofs.writes.put_word.Statement.{statement}
+use Rattle.hole.proofs.writes.put_word.Tie as tie
 
 -- one byte of a write, and its end
 step : (n : ℕ) (m : List ℕ) (i x : ℕ) → 0 < n → store (n - 1) (set m i (x % 256)) (i + 1) (x / 256) ≡ store n m i x

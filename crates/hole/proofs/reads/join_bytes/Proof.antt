@@ -1,9 +1,9 @@
--- `hole::join_bytes` meets its contract: the bytes stand in digits that no two share, so `|` adds them. Assumes nothing.
+-- `hole::reads::join_bytes` meets its contract: the bytes stand in digits that no two share, so `|` adds them. Assumes nothing.
 use native.Mathlib.Omega.{arith}
 use borrow.Author.Needs.{needs}
 use Rattle.hole.proofs.Eight.{by-or}
-use Rattle.hole.proofs.join_bytes.Statement.{statement}
-use Rattle.hole.proofs.join_bytes.Tie as tie
+use Rattle.hole.proofs.reads.join_bytes.Statement.{statement}
+use Rattle.hole.proofs.reads.join_bytes.Tie as tie
 
 mul-result : tie.Need-mul-result
 mul-result c = search needs

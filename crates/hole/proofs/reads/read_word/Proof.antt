@@ -1,8 +1,8 @@
--- `hole::read_word` meets its contract: the eight indices are those of the word. Assumes nothing.
+-- `hole::reads::read_word` meets its contract: the eight indices are those of the word. Assumes nothing.
 use borrow.Author.Needs.{needs}
 use Rattle.hole.proofs.Eight.{by-index}
-use Rattle.hole.proofs.read_word.Statement.{statement}
-use Rattle.hole.proofs.read_word.Tie as tie
+use Rattle.hole.proofs.reads.read_word.Statement.{statement}
+use Rattle.hole.proofs.reads.read_word.Tie as tie
 
 shared-slice-read-join-bytes : tie.Need-shared-slice-read-join-bytes
 shared-slice-read-join-bytes c = search needs

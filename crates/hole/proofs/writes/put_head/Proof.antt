@@ -1,11 +1,11 @@
--- `hole::put_head` meets its contract: a head written into the part that is lent on is written at the place. Assumes nothing.
+-- `hole::writes::put_head` meets its contract: a head written into the part that is lent on is written at the place. Assumes nothing.
 use mathlib.Core.Path.{_≡_}
 use Prim.Native.Nat.{_+_, _-_}
 use native.Mathlib.Omega.{arith}
 use borrow.Author.Needs.{needs}
 use Rattle.rules.proofs.Heads.{head-part}
-use Rattle.hole.proofs.put_head.Statement.{statement}
-use Rattle.hole.proofs.put_head.Tie as tie
+use Rattle.hole.proofs.writes.put_head.Statement.{statement}
+use Rattle.hole.proofs.writes.put_head.Tie as tie
 
 add-make-hole : tie.Need-add-make-hole
 add-make-hole c = search needs
