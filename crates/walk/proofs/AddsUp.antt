@@ -1,21 +1,28 @@
 -- The rules on the holes, as a walk to the end and its sum decide them: of the whole list, or of what is left of it behind a part that
 -- was passed. Assumes nothing.
-use mathlib.Core.Path.{_≡_, refl, sym, _∙_}
+use mathlib.Core.Path.{_≡_, refl, sym, ap, _∙_}
 use mathlib.Core.Bool.{Bool, false, _&&_}
-use mathlib.Core.List.{List, append-nil}
-use Prim.Native.Nat.{ℕ, _+_, _-_, _≤_, _<_}
+use mathlib.Core.List.{List, _++_, append-nil}
+use Prim.Native.Nat.{ℕ, suc, _+_, _-_, _≤_, _<_}
 use native.Mathlib.Omega.{arith}
 use lib.Dec.{eqb}
 use borrow.Author.Tests.{eqb-true, eq-eqb, ne-eqb}
+use Rattle.rules.specs.Fixed.{minSize}
 use Rattle.rules.specs.Holes as Holes
-use Rattle.rules.specs.Sound.{size, soundHoles, holes}
+use Rattle.rules.specs.Holes.{holesFrom, firstOf}
+use Rattle.rules.specs.Sound.{size, soundHoles, most, holes}
 use Rattle.rules.specs.declared.Addr.{Addr}
+use Rattle.rules.specs.declared.Place.{Place}
 use Rattle.rules.specs.declared.Hole.{Hole}
 use Rattle.rules.specs.declared.Heap.{Heap}
 use Rattle.rules.specs.Inner.{Fair}
 use Rattle.rules.proofs.Cases.{apart, iff}
 use Rattle.rules.proofs.Walk.{walks, sound-walks}
-use Rattle.walk.specs.Walk.{startOf, Stop, stopped, ended, broken, walked, never, walkedBy, walkedOf, addsUp}
+use Rattle.rules.proofs.Totals.{total-append}
+use Rattle.walk.specs.declared.Walked.{Walked}
+use Rattle.walk.specs.Walk.{Enough, startOf, Stop, stopped, ended, broken, walked, lastFloor, never, walkedBy, walkedOf, addsUp}
+use Rattle.walk.proofs.Passed.{Spaced}
+use Rattle.walk.proofs.Rest.{rest}
 use Rattle.walk.proofs.Turn.{start}
 use Rattle.walk.proofs.Said.{Says, said, said-end, said-bad}
 
@@ -74,3 +81,35 @@ holes-onward h m f floor total back onward sum = by-walk h m f ∙ rw (onward, s
 pub holes-sound : (h : Heap) (m : List ℕ) → Fair h
     → soundHoles h (holes h m) ≡ addsUp h (walkedOf h (startOf h) 0 (holes h m))
 holes-sound h m f = holes-onward h m f (startOf h) 0 (holes h m) refl (omega arith)
+
+-- ---- a walk that goes on
+
+-- behind the holes that another has passed
+pub record Reached (h : Heap) (m : List ℕ) (at : Place) (floor : Addr) (total : ℕ) (front back : List Hole) : Type 0 where
+  pub fair : Fair h
+  pub list : holes h m ≡ front ++ back
+  pub next : at ≡ firstOf (h .base) back
+  pub behind : floor ≡ lastFloor (startOf h) front
+  pub summed : total ≡ Holes.total front
+  pub spaced : Spaced (startOf h) front
+  pub high : floor .0 ≤ h .top .0 + minSize
+  pub onward : walks h (startOf h) (holes h m) ≡ walks h floor back
+
+module _ {h : Heap} {m : List ℕ} {at : Place} {floor : Addr} {total : ℕ} {front back : List Hole} (r : Reached h m at floor total front back) where
+  -- what it asks
+  pub onward-asks : (h .bottom .0 + total ≤ floor .0) × (floor .0 ≤ h .top .0 + minSize)
+  onward-asks =
+      let f = ap (λ (a : Addr). a .0) (r .behind) in
+      (omega (arith, start h m (r .fair) .bottom, r .summed, r .spaced .summed), r .high)
+
+  -- it decides the rules on all holes
+  pub onward-decides : {w : Walked} → ((n : ℕ) → Enough h floor n → w ≡ walkedOf h floor total (holesFrom n (h .base) m at))
+      → soundHoles h (holes h m) ≡ addsUp h w
+  onward-decides is =
+      let s = start h m (r .fair) in
+      let f = ap (λ (a : Addr). a .0) (r .behind) in
+      let l = rest (suc (most h)) (h .base) m (h .first) front back (sym (s .list) ∙ r .list) in
+      let w = is (l .left) (omega (arith, l .is, s .enough, r .spaced .counted)) in
+      let b = ap (holesFrom (l .left) (h .base) m) (r .next) ∙ l .list in
+      let t : Holes.total (holes h m) ≡ total + Holes.total back = omega (arith, ap Holes.total (r .list), total-append front back, r .summed) in
+      holes-onward h m (r .fair) floor total back (r .onward) t ∙ ap (addsUp h) (sym (w ∙ ap (walkedOf h floor total) b))

@@ -6,8 +6,9 @@ pub mod OneStep
 pub mod Passed
 pub mod Turn
 pub mod Said
+-- what the loops gather
+pub mod Gathered
 -- the walks that look for a hole: to a fit, with where a block starts in a hole; to a span
-pub mod Seeking
 pub mod Candidates
 pub mod ToFit
 pub mod ToSpan

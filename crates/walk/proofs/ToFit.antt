@@ -1,7 +1,7 @@
 -- The walk to the hole that an allocation uses: how its loop answers, and what the answer says of the list of holes. Assumes nothing.
 use mathlib.Core.Path.{_≡_, refl, sym, _∙_}
 use mathlib.Core.Bool.{true, false}
-use mathlib.Core.List.{List, [], _∷_, _++_, append-nil}
+use mathlib.Core.List.{List, [], _∷_, _++_, append-nil, append-assoc}
 use Prim.Native.Nat.{ℕ, _+_}
 use native.Mathlib.Omega.{arith}
 use lib.ListN.{length}
@@ -18,7 +18,7 @@ use Rattle.rules.specs.declared.Addr.{Addr}
 use Rattle.rules.specs.declared.Place.{Place}
 use Rattle.rules.specs.declared.Hole.{Hole}
 use Rattle.rules.specs.declared.Heap.{Heap}
-use Rattle.rules.specs.Inner.{Fair, headRules, behind}
+use Rattle.rules.specs.Inner.{Fair, behind}
 use Rattle.rules.proofs.Walk.{Keeps, rules-keep, walks}
 use Rattle.walk.specs.declared.Cursor.{Cursor}
 use Rattle.walk.specs.declared.Fit.{Fit}
@@ -28,10 +28,11 @@ use Rattle.walk.specs.declared.Search.{Search}
 use Rattle.walk.specs.declared.Search.the-variants as search
 use Rattle.walk.specs.Walk.{startOf, stepOf, isEnd, Stop, stopped, ended, broken, walked, lastPlace, lastFloor, cursorAt, searchBy, searchOf}
 use Rattle.walk.proofs.Step as Steps
-use Rattle.walk.proofs.Passed.{Spaced}
+use Rattle.walk.proofs.Passed.{floor-some, total-more, Spaced, spaced-more}
 use Rattle.walk.proofs.Turn.{turn-place, all-halt, all-end, all-break}
 use Rattle.walk.proofs.Said.{None, Says, said}
-use Rattle.walk.proofs.Seeking.{Seeking}
+use Rattle.walk.proofs.Gathered.{Seeking}
+use Rattle.walk.proofs.AddsUp.{Reached}
 
 -- ---- the loop
 
@@ -42,16 +43,16 @@ module _ (want align : ℕ) {h : Heap} {m : List ℕ} {cursor : Cursor} {floor :
         ≡ searchOf h want align (holes h m)
     unfolding searchOf searchBy
     search-found e y =
-        let t = all-halt (s .gone) is e y in
-        rw (t .1, t .2, ← s .prev, ← turn-place (s .gone) is e, s .counted, s .summed)
+        let t = all-halt (s .counting .gone) is e y in
+        rw (t .1, t .2, ← s .prev, ← turn-place (s .counting .gone) is e, s .counting .counted, s .counting .summed)
 
     pub search-ended : isEnd st ≡ true → search.Nowhere count total ≡ searchOf h want align (holes h m)
     unfolding searchOf searchBy
-    search-ended e = rw (all-end (s .gone) is e, s .counted, s .summed)
+    search-ended e = rw (all-end (s .counting .gone) is e, s .counting .counted, s .counting .summed)
 
     pub search-broken : OneOf (1 ∷ 2 ∷ []) (tagOf Steps.the-type st) → isEnd st ≡ false → search.Bad ≡ searchOf h want align (holes h m)
     unfolding searchOf searchBy
-    search-broken o e = rw (all-break (s .gone) is o e)
+    search-broken o e = rw (all-break (s .counting .gone) is o e)
 
 -- ---- what the answer says of the list
 
@@ -140,3 +141,20 @@ module _ (h : Heap) (want align : ℕ) where
 
     pub fit-bad : searchOf h want align ks ≡ search.Bad → walks h (startOf h) ks ≡ false
     fit-bad e = rw e at told
+
+-- the holes up to it are passed: a walk that goes on starts behind it
+pub fit-reached : (h : Heap) (m : List ℕ) (want align : ℕ) {f : Fit} → Fair h → (t : Fits h want align (holes h m) f)
+    → Reached h m (f .next) (behind (f .hole)) (f .total) (t .front ++ (f .hole ∷ [])) (t .back)
+fit-reached h m want align {f} fair t =
+    let k = f .hole in
+    let r = t .keeps in
+    record {
+      fair = fair;
+      list = t .list ∙ sym (append-assoc (t .front) (k ∷ []) (t .back));
+      next = t .next;
+      behind = sym (floor-some (startOf h) (t .front) k);
+      summed = t .summed ∙ sym (total-more (t .front) k);
+      spaced = spaced-more (startOf h) (t .front) k (r .least) (t .spaced) (r .above);
+      high = omega arith;
+      onward = t .onward;
+    }

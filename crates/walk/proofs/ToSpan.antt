@@ -7,6 +7,7 @@ use native.Mathlib.Omega.{arith}
 use denote.Enum.Declared.{tagOf}
 use types.Run.{OneOf}
 use borrow.Author.Tests.{ltb-true, ltb-false, lt-ltb, le-ltb}
+use Rattle.rules.specs.Fixed.{minSize}
 use Rattle.rules.specs.Tests.{all}
 use Rattle.rules.specs.Kinds.{placeOf, none, before}
 use Rattle.rules.specs.Holes as Holes
@@ -16,8 +17,8 @@ use Rattle.rules.specs.declared.Addr.{Addr}
 use Rattle.rules.specs.declared.Place.{Place}
 use Rattle.rules.specs.declared.Hole.{Hole}
 use Rattle.rules.specs.declared.Heap.{Heap}
-use Rattle.rules.specs.Inner.{headRules, behind, ends}
-use Rattle.rules.proofs.Walk.{walks}
+use Rattle.rules.specs.Inner.{Fair, headRules, ends}
+use Rattle.rules.proofs.Walk.{rules-keep, walks, ends-cases}
 use Rattle.rules.proofs.Freed.{Past}
 use Rattle.walk.specs.declared.Cursor.{Cursor}
 use Rattle.walk.specs.declared.Near.{Near}
@@ -30,7 +31,8 @@ use Rattle.walk.proofs.Step as Steps
 use Rattle.walk.proofs.Passed.{Spaced}
 use Rattle.walk.proofs.Turn.{turn-place, end-place, all-halt, all-end, all-break}
 use Rattle.walk.proofs.Said.{None, Came, Says, said}
-use Rattle.walk.proofs.Seeking.{Seeking}
+use Rattle.walk.proofs.Gathered.{Seeking}
+use Rattle.walk.proofs.AddsUp.{Reached}
 
 -- ---- the loop
 
@@ -42,16 +44,16 @@ module _ (x : Addr) {h : Heap} {m : List ℕ} {cursor : Cursor} {floor : Addr} {
     pub near-found : {k : Hole} {q : Place} → st ≡ step.At k q → x .0 < k .addr .0 → here ≡ nearOf h x (holes h m)
     unfolding nearOf nearBy firstOf
     near-found {k} e l =
-        let t = all-halt (s .gone) is e (lt-ltb (x .0) (k .addr .0) l) in
-        rw (t .1, ← s .prev, ← turn-place (s .gone) is e, ← s .gone .behind, ← s .summed)
+        let t = all-halt (s .counting .gone) is e (lt-ltb (x .0) (k .addr .0) l) in
+        rw (t .1, ← s .prev, ← turn-place (s .counting .gone) is e, ← s .counting .gone .behind, ← s .counting .summed)
 
     pub near-ended : isEnd st ≡ true → here ≡ nearOf h x (holes h m)
     unfolding nearOf nearBy firstOf
-    near-ended e = rw (all-end (s .gone) is e, ← s .prev, ← end-place (s .gone) is e, ← s .gone .behind, ← s .summed)
+    near-ended e = rw (all-end (s .counting .gone) is e, ← s .prev, ← end-place (s .counting .gone) is e, ← s .counting .gone .behind, ← s .counting .summed)
 
     pub near-broken : OneOf (1 ∷ 2 ∷ []) (tagOf Steps.the-type st) → isEnd st ≡ false → spot.Bad ≡ nearOf h x (holes h m)
     unfolding nearOf nearBy
-    near-broken o e = rw (all-break (s .gone) is o e)
+    near-broken o e = rw (all-break (s .counting .gone) is o e)
 
 -- ---- what the answer says of the list
 
@@ -72,6 +74,10 @@ Beyond x ks = Past (x .0) ks
 abbrev pub Begins : Heap → Addr → List Hole → Type 0
 Begins h floor [] = ends h floor ≡ true
 Begins h floor (k ∷ ks) = all (headRules h floor k) ≡ true
+
+begins-high : (h : Heap) (floor : Addr) (ks : List Hole) → Begins h floor ks → floor .0 ≤ h .top .0 + minSize
+begins-high h floor [] b = ends-cases h floor b (λ l. omega arith) (λ e. omega arith)
+begins-high h floor (k ∷ ks) b = let r = rules-keep h floor k b in omega arith
 
 module _ (h : Heap) (x : Addr) where
   -- the holes before the address, and those beyond it
@@ -127,3 +133,18 @@ module _ (h : Heap) (x : Addr) where
 
     pub near-bad : nearOf h x ks ≡ spot.Bad → walks h (startOf h) ks ≡ false
     near-bad e = rw e at told
+
+-- a walk that goes on starts behind the holes before the address
+pub near-reached : (h : Heap) (m : List ℕ) (x : Addr) {s : Near} → Fair h → (l : Lies h x (holes h m) s)
+    → Reached h m (s .cursor .hole) (s .floor) (s .total) (l .front) (l .back)
+near-reached h m x {s} fair l =
+    record {
+      fair = fair;
+      list = l .list;
+      next = l .at;
+      behind = l .floor;
+      summed = l .summed;
+      spaced = l .spaced;
+      high = begins-high h (s .floor) (l .back) (l .begins);
+      onward = l .onward;
+    }

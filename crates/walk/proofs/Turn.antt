@@ -261,8 +261,14 @@ all stops h m = record { stops = stops; h = h; m = m; from = h .first; low = sta
 pub begins-all : (stops : Hole → Bool) (h : Heap) (m : List ℕ) → Fair h → Gone (all stops h m) (h .first) (startOf h) []
 begins-all stops h m f = begins (all stops h m) f (start h m f .low)
 
--- the turns that end it
+-- what is left of it, and the turns that end it
 module _ {stops : Hole → Bool} {h : Heap} {m : List ℕ} {at : Place} {floor : Addr} {front : List Hole} (g : Gone (all stops h m) at floor front) where
+  pub all-left : (back : List Hole) × (holes h m ≡ front ++ back)
+  all-left =
+      let s = start h m (g .fair) in
+      let l = g .left (suc (most h)) (s .enough) in
+      (holesFrom (l .rest) (h .base) m at, s .list ∙ l .list)
+
   module _ {st : Step} (is : st ≡ stepOf h m at floor) where
     pub all-halt : {k : Hole} {q : Place} → st ≡ step.At k q → stops k ≡ true
         → (back : List Hole) × (walked stops h (startOf h) (holes h m) ≡ stopped front k back) × (firstOf (h .base) back ≡ q)

@@ -7,7 +7,7 @@ use borrow.Author.Needs.{needs}
 use Rattle.rules.specs.Fixed.{minSize}
 use Rattle.rules.specs.Allocate.{suits}
 use Rattle.walk.proofs.Turn.{turn-bounds}
-use Rattle.walk.proofs.Seeking.{Seeking, seeks, seeks-on}
+use Rattle.walk.proofs.Gathered.{Seeking, seeks, seeks-on}
 use Rattle.walk.proofs.ToFit.{search-found, search-ended, search-broken}
 use Rattle.walk.proofs.to_fit.first_fit.Statement.{statement}
 use Rattle.walk.proofs.to_fit.first_fit.Tie as tie
@@ -52,32 +52,32 @@ add-total : tie.Need-add-total Inv-loop μ-loop
 add-total c =
     let s = c .before .before in
     let t = s .before .before in
-    omega (arith, turn-bounds (t .before .before .loop .inv .gone) (t .next .ensures) (s .st .given .1))
+    omega (arith, turn-bounds (t .before .before .loop .inv .counting .gone) (t .next .ensures) (s .st .given .1))
 
 add-count : tie.Need-add-count Inv-loop μ-loop
 add-count c =
     let s = c .before .before in
     let t = s .before .before in
-    omega (arith, turn-bounds (t .before .before .loop .inv .gone) (t .next .ensures) (s .st .given .1))
+    omega (arith, turn-bounds (t .before .before .loop .inv .counting .gone) (t .next .ensures) (s .st .given .1))
 
 suits-requires : tie.Need-suits-requires Inv-loop μ-loop
 suits-requires c κs =
     let s = c .before .before in
     let t = s .before .before in
-    let b = turn-bounds (t .before .before .loop .inv .gone) (t .next .ensures) (s .st .given .1) in
+    let b = turn-bounds (t .before .before .loop .inv .counting .gone) (t .next .ensures) (s .st .given .1) in
     (search needs, omega arith, b .least)
 
 behind-requires : tie.Need-behind-requires Inv-loop μ-loop
 behind-requires c κs =
     let s = c .before .before .before .before in
     let t = s .before .before in
-    omega (arith, turn-bounds (t .before .before .loop .inv .gone) (t .next .ensures) (s .st .given .1))
+    omega (arith, turn-bounds (t .before .before .loop .inv .counting .gone) (t .next .ensures) (s .st .given .1))
 
 loop-less : tie.Need-loop-less Inv-loop μ-loop
 loop-less c =
     let s = c .before .before .before .before .before in
     let t = s .before .before in
-    let b = turn-bounds (t .before .before .loop .inv .gone) (t .next .ensures) (s .st .given .1) in
+    let b = turn-bounds (t .before .before .loop .inv .counting .gone) (t .next .ensures) (s .st .given .1) in
     rw (c .behind .ensures) (omega arith)
 
 loop-again : tie.Need-loop-again Inv-loop μ-loop

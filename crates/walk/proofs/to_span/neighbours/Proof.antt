@@ -8,7 +8,7 @@ use borrow.Author.Tests.{le-ltb}
 use Rattle.rules.specs.Fixed.{minSize}
 use Rattle.walk.specs.Walk.{isBeyond}
 use Rattle.walk.proofs.Turn.{turn-bounds}
-use Rattle.walk.proofs.Seeking.{Seeking, seeks, seeks-on}
+use Rattle.walk.proofs.Gathered.{Seeking, seeks, seeks-on}
 use Rattle.walk.proofs.ToSpan.{near-found, near-ended, near-broken}
 use Rattle.walk.proofs.to_span.neighbours.Statement.{statement}
 use Rattle.walk.proofs.to_span.neighbours.Tie as tie
@@ -49,19 +49,19 @@ add-total : tie.Need-add-total Inv-loop μ-loop
 add-total c =
     let s = c .before .before .before .before .before in
     let t = s .before .before in
-    omega (arith, turn-bounds (t .before .before .loop .inv .1 .gone) (t .next .ensures) (s .st .given .1))
+    omega (arith, turn-bounds (t .before .before .loop .inv .1 .counting .gone) (t .next .ensures) (s .st .given .1))
 
 behind-requires : tie.Need-behind-requires Inv-loop μ-loop
 behind-requires c κs =
     let s = c .before .before .before .before .before in
     let t = s .before .before in
-    omega (arith, turn-bounds (t .before .before .loop .inv .1 .gone) (t .next .ensures) (s .st .given .1))
+    omega (arith, turn-bounds (t .before .before .loop .inv .1 .counting .gone) (t .next .ensures) (s .st .given .1))
 
 loop-less : tie.Need-loop-less Inv-loop μ-loop
 loop-less c =
     let s = c .before .before .before .before .before .before in
     let t = s .before .before in
-    let b = turn-bounds (t .before .before .loop .inv .1 .gone) (t .next .ensures) (s .st .given .1) in
+    let b = turn-bounds (t .before .before .loop .inv .1 .counting .gone) (t .next .ensures) (s .st .given .1) in
     rw (c .behind .ensures) (omega arith)
 
 loop-again : tie.Need-loop-again Inv-loop μ-loop
