@@ -2,9 +2,19 @@
 // two, where the original panics: callers test the alignment first, and refuse with 6. An alignment
 // of 0, which the original passes through, is no power of two either.
 use rules::Addr;
-ghost use Prim.Native.Nat.{_+_, _^_, _≤_};
+ghost use mathlib.Core.Path.{_≡_};
+ghost use Prim.Native.Nat.{_+_, _%_, _^_, _≤_};
 ghost use Rattle.rules.specs.Round.{Power, Below, Above};
 ghost use Rattle.rules.specs.Fixed.{width};
+
+// How far a number lies above the multiple of `align` at or below it. The mask takes what a division
+// would.
+pub fn offset(x: u64, align: u64) -> u64
+    requires { ⌜ Power align ⌝ }
+    ensures { λ r. ⌜ r ≡ x % align ⌝ }
+{
+    x & (align - 1)
+}
 
 // Rounds a size down: the result is the greatest multiple of `align` at or below `size`. The panic
 // on a bad alignment went to the callers' refusal 6.
@@ -12,7 +22,7 @@ pub fn align_down_size(size: u64, align: u64) -> u64
     requires { ⌜ Power align ⌝ }
     ensures { λ r. ⌜ Below align size r ⌝ }
 {
-    size - (size & (align - 1))
+    size - offset(size, align)
 }
 
 // Rounds a size up: the result is the least multiple of `align` at or above `size`. No sum wraps,

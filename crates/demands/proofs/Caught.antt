@@ -1,10 +1,9 @@
 -- What holds of each call of a behaviour that meets the statements: a refusal comes of no other outcome, the tests are made, and a grant
 -- lies where demand 2 says. Assumes nothing.
 use mathlib.Core.Path.{_≡_, sym, ap, subst, _∙_}
-use mathlib.Core.List.{List, [], _∷_, _++_}
+use mathlib.Core.List.{List, _∷_, _++_}
 use Prim.Native.Nat.{ℕ, _+_, _-_, _≤_}
 use native.Mathlib.Omega.{arith}
-use lib.Dec.{ltb}
 use lib.ListN.{length}
 use Rattle.rules.specs.declared.Addr.{Addr}
 use Rattle.rules.specs.declared.Hole.{Hole}
@@ -12,20 +11,19 @@ use Rattle.rules.specs.declared.Heap.{Heap}
 use Rattle.rules.specs.declared.Refusal.{Refusal}
 use Rattle.rules.specs.declared.Refusal.the-variants.{Opened, OtherLength, NotSound}
 use Rattle.rules.specs.declared.Answer.the-variants.{Allocated, Refused}
-use Rattle.rules.specs.Fixed.{minSize}
-use Rattle.rules.specs.Tests.{any}
 use Rattle.rules.specs.Kinds.{addr}
 use Rattle.rules.specs.Sound.{holes}
-use Rattle.rules.specs.Allocate.{rounded, Found, nothing, found, find}
-use Rattle.rules.specs.Calls.{Call, opening, allocate, free, extend, list, room, Outcome, refused, told, done, taken, given, gathered, grown, extended, accepted}
-use Rattle.rules.specs.Refusals.{Test, tests, unless}
-use Rattle.rules.specs.Outcome.{decided, outcome}
+use Rattle.rules.specs.Allocate.{rounded}
+use Rattle.rules.specs.Changes.{Report}
+use Rattle.rules.specs.Calls.{Call, opening, change, report, allocate, list, Outcome, refused, told, done, accepted}
+use Rattle.rules.specs.Outcome.{outcome}
 use Rattle.rules.specs.InWords.{SoundHoles, Rounds, sum, Lies, RoomAt}
 use Rattle.rules.specs.Runs.{Fits}
 use Rattle.rules.specs.Behaviour.{Behaviour, ours}
 use Rattle.rules.specs.Statements.{Granted, Statements, refusalsOf}
 use Rattle.demands.specs.Frauds.{Grant, UsedHole}
-use Rattle.rules.proofs.Cases.{by-test, by-eq}
+use Rattle.rules.proofs.Cases.{by-eq}
+use Rattle.rules.proofs.Passes.{by-decided, Plain, by-change}
 use Rattle.rules.proofs.TestWords.{no-layout}
 use Rattle.rules.proofs.Statements.{statements}
 use Rattle.demands.proofs.OneList.{one-place}
@@ -36,48 +34,28 @@ use Rattle.demands.proofs.Determined.{by-outcome}
 -- ---- a refusal
 
 -- an answer that comes of no refusal is none
-abbrev Plain : Outcome → Type 0
-Plain (refused r) = Unit {0}
-Plain (told a ks) = (r : Refusal) → a ≡ Refused r → ⊥
-Plain (done a h ks) = (r : Refusal) → a ≡ Refused r → ⊥
+abbrev Accepts : Outcome → Type 0
+Accepts (refused r) = Unit {0}
+Accepts (told a ks) = Plain a
+Accepts (done a h ks) = Plain a
 
-unless-plain : (qs : List Test) (o : Outcome) → Plain o → Plain (unless qs o)
-unfolding unless
-unless-plain [] o p = p
-unless-plain (q ∷ qs) o p =
-    by-test Plain (any (q .«exactly-if»)) (refused (q .gives)) (unless qs o) (λ t. tt) (λ t. unless-plain qs o p)
+accepted-accepts : (c : Call) (len : ℕ) (h : Heap) (ks : List Hole) → Accepts (accepted c len h ks)
+unfolding accepted
+accepted-accepts (opening base named) len h ks = λ r e. let z : _≡_ {A = ℕ} 0 1 = cc in omega arith
+accepted-accepts (change c) len h ks = by-change Accepts h ks (λ r e. tt) (λ a h′ js e p. p) c len
+accepted-accepts (report Report.list) len h ks = λ r e. let z : _≡_ {A = ℕ} 0 1 = cc in omega arith
+accepted-accepts (report Report.room) len h ks = λ r e. let z : _≡_ {A = ℕ} 0 1 = cc in omega arith
 
-taken-plain : (s align : ℕ) (h : Heap) (ks : List Hole) (f : Found) → Plain (taken s align h ks f)
-unfolding taken
-taken-plain s align h ks nothing = tt
-taken-plain s align h ks (found front k back) = λ r e. let z : _≡_ {A = ℕ} 0 1 = cc in omega arith
-
-extended-plain : (by : ℕ) (h : Heap) (ks : List Hole) → Plain (extended by h ks)
-unfolding extended gathered grown
-extended-plain by h ks =
-    by-test Plain (ltb (h .pending + by) minSize) _ _
-    (λ t r e. let z : _≡_ {A = ℕ} 0 1 = cc in omega arith)
-    (λ t r e. let z : _≡_ {A = ℕ} 0 1 = cc in omega arith)
-
-accepted-plain : (c : Call) (len : ℕ) (h : Heap) (ks : List Hole) → Plain (accepted c len h ks)
-unfolding accepted given
-accepted-plain (opening base named) len h ks = λ r e. let z : _≡_ {A = ℕ} 0 1 = cc in omega arith
-accepted-plain (allocate s align) len h ks = taken-plain (rounded s) align h ks (find (rounded s) align ks)
-accepted-plain (free x s align) len h ks = λ r e. let z : _≡_ {A = ℕ} 0 1 = cc in omega arith
-accepted-plain (extend by) len h ks = extended-plain by h ks
-accepted-plain list len h ks = λ r e. let z : _≡_ {A = ℕ} 0 1 = cc in omega arith
-accepted-plain room len h ks = λ r e. let z : _≡_ {A = ℕ} 0 1 = cc in omega arith
-
-outcome-plain : (c : Call) (h : Heap) (m : List ℕ) → Plain (outcome c h m)
-unfolding outcome decided
-outcome-plain c h m =
-    unless-plain (tests c (length m) h (holes h m)) (accepted c (length m) h (holes h m)) (accepted-plain c (length m) h (holes h m))
+outcome-accepts : (c : Call) (h : Heap) (m : List ℕ) → Accepts (outcome c h m)
+unfolding outcome
+outcome-accepts c h m =
+    by-decided Accepts c (length m) h (holes h m) (λ r. tt) (λ p. accepted-accepts c (length m) h (holes h m))
 
 module _ (b : Behaviour) (sb : Statements b) where
   pub refused-of : (c : Call) (h : Heap) (m : List ℕ) (r : Refusal) → Fits c → b .after c h m .answer ≡ Refused r
       → b .outcome c h m ≡ refused r
   refused-of c h m r f e =
-      let plain : Plain (b .outcome c h m) = subst Plain (settled ours b statements sb h m c f) (outcome-plain c h m) in
+      let plain : Accepts (b .outcome c h m) = subst Accepts (settled ours b statements sb h m c f) (outcome-accepts c h m) in
       by-outcome (b .outcome c h m)
       (λ x p. let q = sb .refusalsKeep c h m noRows x p .0 in let s : x ≡ r = cc in p ∙ ap refused s)
       (λ a ks p. absurd ((rw p at plain) r (sym (sb .tellsOnly c h m a ks p .0) ∙ e)))
@@ -90,14 +68,10 @@ module _ (b : Behaviour) (sb : Statements b) where
   not-swapped (opening base named) h m f z e =
       let d = sb .refusalsExactly (opening base named) h m f .1 (λ n. n z) in
       d .1 (λ n. let p = d .0 n in let z : _≡_ {A = ℕ} 0 1 = cc in omega arith) OtherLength e
-  not-swapped (allocate s align) h m f z e =
-      let p = sb .refusalsExactly (allocate s align) h m f .0 z in let z : _≡_ {A = ℕ} 0 1 = cc in omega arith
-  not-swapped (free x s align) h m f z e =
-      let p = sb .refusalsExactly (free x s align) h m f .0 z in let z : _≡_ {A = ℕ} 0 1 = cc in omega arith
-  not-swapped (extend by) h m f z e =
-      let p = sb .refusalsExactly (extend by) h m f .0 z in let z : _≡_ {A = ℕ} 0 1 = cc in omega arith
-  not-swapped list h m f z e = let p = sb .refusalsExactly list h m f .0 z in let z : _≡_ {A = ℕ} 0 1 = cc in omega arith
-  not-swapped room h m f z e = let p = sb .refusalsExactly room h m f .0 z in let z : _≡_ {A = ℕ} 0 1 = cc in omega arith
+  not-swapped (change c) h m f z e =
+      let p = sb .refusalsExactly (change c) h m f .0 z in let z : _≡_ {A = ℕ} 0 1 = cc in omega arith
+  not-swapped (report r) h m f z e =
+      let p = sb .refusalsExactly (report r) h m f .0 z in let z : _≡_ {A = ℕ} 0 1 = cc in omega arith
 
   -- an opened heap whose sizes do not add up is refused, whatever the call
   module _ (h : Heap) (m : List ℕ) (open′ : h .bottom .0 ≡ 0 → ⊥) (n : sum (b .holes h m) + h .used ≡ h .top .0 - h .bottom .0 → ⊥) where
@@ -109,11 +83,8 @@ module _ (b : Behaviour) (sb : Statements b) where
 
     pub tested : (c : Call) → Fits c → (r : Refusal) × (b .outcome c h m ≡ refused r)
     tested (opening base named) f = (Opened, sb .refusalsExactly (opening base named) h m f .0 open′)
-    tested (allocate s align) f = unsound (sb .refusalsExactly (allocate s align) h m f)
-    tested (free x s align) f = unsound (sb .refusalsExactly (free x s align) h m f)
-    tested (extend by) f = unsound (sb .refusalsExactly (extend by) h m f)
-    tested list f = unsound (sb .refusalsExactly list h m f)
-    tested room f = unsound (sb .refusalsExactly room h m f)
+    tested (change c) f = unsound (sb .refusalsExactly (change c) h m f)
+    tested (report r) f = unsound (sb .refusalsExactly (report r) h m f)
 
   -- ---- a grant
 

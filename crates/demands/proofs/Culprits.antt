@@ -12,7 +12,8 @@ use Rattle.rules.specs.declared.Answer.the-variants.{Allocated, Freed}
 use Rattle.rules.specs.Kinds.{addr}
 use Rattle.rules.specs.Holes.{hole}
 use Rattle.rules.specs.Sound.{unopened}
-use Rattle.rules.specs.Calls.{Call, opening, allocate, free, extend, list, room}
+use Rattle.rules.specs.Changes.{Change}
+use Rattle.rules.specs.Calls.{Call, opening, change, report, extend}
 use Rattle.rules.specs.Outcome.{After}
 use Rattle.rules.specs.InWords.{Sound, Rounds, RoomAt, Within}
 use Rattle.rules.specs.Behaviour.{Behaviour, ours}
@@ -63,17 +64,14 @@ allBelow (opening base named) =
       pending = 0;
       used = 0;
     }
-allBelow (allocate s align) = unopened
-allBelow (free x s align) = unopened
-allBelow (extend by) = unopened
-allBelow list = unopened
-allBelow room = unopened
+allBelow (change c) = unopened
+allBelow (report r) = unopened
 
 -- after a free the next grant is one byte behind what was given back
 abbrev past : Call → Heap → List ℕ → After
 past (opening base named) h m = ours .after (opening base named) h m
-past (allocate s align) h m = record { answer = Allocated (addr (h .used)) 1; heap = h; arena = m }
-past (free x s align) h m =
+past (change (Change.allocate s align)) h m = record { answer = Allocated (addr (h .used)) 1; heap = h; arena = m }
+past (change (Change.free x s align)) h m =
     record {
       answer = Freed 16 0;
       heap =
@@ -88,9 +86,8 @@ past (free x s align) h m =
           };
       arena = m;
     }
-past (extend by) h m = ours .after (extend by) h m
-past list h m = ours .after list h m
-past room h m = ours .after room h m
+past (change (Change.extend by)) h m = ours .after (extend by) h m
+past (report r) h m = ours .after (report r) h m
 
 abbrev pub passing : Behaviour
 passing = bent unopened (λ h m. []) past

@@ -11,7 +11,8 @@ use Rattle.rules.specs.declared.Refusal.the-variants.{BadOpening, Opened, Unope
 use Rattle.rules.specs.declared.Answer.{Answer}
 use Rattle.rules.specs.declared.Answer.the-variants.{Opening, Allocated, Freed, Extended, Listed, Room, Refused}
 use Rattle.rules.specs.Kinds.{addr, place}
-use Rattle.rules.specs.Calls.{Call, opening, allocate, free, extend, list, room, Outcome, refused, told, done}
+use Rattle.rules.specs.Changes.{Report}
+use Rattle.rules.specs.Calls.{Call, opening, change, report, list, room, Outcome, refused, told, done}
 use Rattle.rules.specs.Outcome.{After, Rows}
 use Rattle.rules.specs.InWords.{SoundNumbers, Hold}
 use Rattle.rules.specs.Runs.{Fits, Reader}
@@ -109,11 +110,9 @@ module _ (b e : Behaviour) (sb : Statements b) (se : Statements e) (h : Heap) (m
 
   rows-same : (c : Call) → b .rowsAfter c h m r ≡ e .rowsAfter c h m r
   rows-same (opening base named) = other-rows (opening base named) (λ k. let z : _≡_ {A = ℕ} 0 1 = cc in omega arith)
-  rows-same (allocate s align) = other-rows (allocate s align) (λ k. let z : _≡_ {A = ℕ} 0 1 = cc in omega arith)
-  rows-same (free x s align) = other-rows (free x s align) (λ k. let z : _≡_ {A = ℕ} 0 1 = cc in omega arith)
-  rows-same (extend by) = other-rows (extend by) (λ k. let z : _≡_ {A = ℕ} 0 1 = cc in omega arith)
-  rows-same list = list-rows
-  rows-same room = other-rows room (λ k. let z : _≡_ {A = ℕ} 0 1 = cc in omega arith)
+  rows-same (change c) = other-rows (change c) (λ k. let z : _≡_ {A = ℕ} 0 1 = cc in omega arith)
+  rows-same (report Report.list) = list-rows
+  rows-same (report Report.room) = other-rows room (λ k. let z : _≡_ {A = ℕ} 0 1 = cc in omega arith)
 
 -- ---- answer, heap and arena
 

@@ -9,9 +9,6 @@ use native.Mathlib.Omega.{arith}
 use lib.Dec.{eqb, ltb}
 use borrow.Author.Tests.{eqb-true, eq-eqb}
 use Rattle.rules.specs.declared.Addr.{Addr}
-use Rattle.rules.specs.declared.Hole.{Hole}
-use Rattle.rules.specs.declared.Heap.{Heap}
-use Rattle.rules.specs.declared.Answer.{Answer}
 use Rattle.rules.specs.Fixed.{minSize, grain}
 use Rattle.rules.specs.Round.{downTo}
 use Rattle.rules.specs.Tests.{any}
@@ -19,18 +16,19 @@ use Rattle.rules.specs.Kinds.{addr, same}
 use Rattle.rules.specs.Holes.{hole, end}
 use Rattle.rules.specs.Sound.{soundHoles}
 use Rattle.rules.specs.Allocate.{rounded, Found, nothing, found, find}
-use Rattle.rules.specs.Calls.{Call, opening, allocate, free, extend, list, room, Outcome, done, onlyHole, opened, taken, given, grown, gathered, extended, accepted}
-use Rattle.rules.specs.Refusals.{refusal6, tests}
+use Rattle.rules.specs.Changes.{Change}
+use Rattle.rules.specs.Calls.{Call, opening, change, report, allocate, free, extend, Outcome, onlyHole, opened, taken, given, grown, gathered, extended, accepted}
+use Rattle.rules.specs.Refusals.{refusal6, changeTests, tests}
+use Rattle.rules.specs.Answers.{answerNumbers}
 use Rattle.rules.specs.Runs.{Fits, Ask, calls, reads, AllFit, Block, block, sameBlock, without, Box, start, heldAfter, comesTo, boxAfter, nextBox, ends, HonestCall, Honest}
 use Rattle.rules.specs.InWords.{Valid}
-use Rattle.rules.specs.Inner.{Fair}
 use Rattle.rules.proofs.Cases.{by-test, apart, all-each, each-all}
 use Rattle.rules.proofs.Layouts.{layout-passed}
 use Rattle.rules.proofs.SoundWords.{rounded-rounds, holes-words}
 use Rattle.rules.proofs.Passes.{Passes, by-decided}
 use Rattle.rules.proofs.Used.{find-splits}
 use Rattle.rules.proofs.Suits.{candidate-eight, found-lies}
-use Rattle.rules.proofs.SoundKept.{passed-stands}
+use Rattle.rules.proofs.SoundKept.{Stands, passed-opened}
 use Rattle.rules.proofs.Totals.{added, freed-added, used-added}
 use Rattle.rules.proofs.Cover.{once, cover, once-behind, joined-once, once-adds}
 use Rattle.demands.proofs.Tiling.{span, spans, range, Filled}
@@ -108,7 +106,7 @@ module _ (b : Box) (settled : Settled b) where
   taken-settled : (s align : ℕ) (f : Found) → Valid s align (rounded s) → soundHoles (b .heap) (b .holes) ≡ true
       → find (rounded s) align (b .holes) ≡ f
       → Settled (boxAfter (allocate s align) b (taken (rounded s) align (b .heap) (b .holes) f))
-  unfolding taken boxAfter heldAfter added
+  unfolding taken boxAfter heldAfter answerNumbers added
   taken-settled s align nothing v sound e = settled
   taken-settled s align (found front k back) v sound e =
       let r = rounded s in
@@ -131,10 +129,13 @@ module _ (b : Box) (settled : Settled b) where
             (List·Memᴰ·cases-cons m);
       }
 
-  given-settled : (x : Addr) (s align : ℕ) → List·Memᴰ (block x s align) (b .held)
-      → Settled (boxAfter (free x s align) b (given (rounded s) x (b .heap) (b .holes)))
-  unfolding given boxAfter heldAfter
-  given-settled x s align m =
+  change-settled : (c : Change) (n : ℕ) → Fits (change c) → Stands n (b .heap) (b .holes) → Passes (changeTests c (b .heap) (b .holes))
+      → HonestCall (change c) (accepted (change c) n (b .heap) (b .holes)) b
+      → Settled (boxAfter (change c) b (accepted (change c) n (b .heap) (b .holes)))
+  unfolding accepted given extended gathered grown boxAfter heldAfter
+  change-settled (Change.allocate s align) n f st p t =
+      taken-settled s align (find (rounded s) align (b .holes)) (passed-valid s align (f .1) (p .0)) (st .sound) refl
+  change-settled (Change.free x s align) n f st p t =
       record {
         filled =
             λ y.
@@ -142,15 +143,13 @@ module _ (b : Box) (settled : Settled b) where
               arith,
               settled .filled y,
               freed-added (once-adds y) (hole x (rounded s)) (b .holes),
-              without-cover y (block x s align) (b .held) m,
+              without-cover y (block x s align) (b .held) (t _ _ _ refl),
             );
-        each = λ j t. settled .each j (without-member (block x s align) (b .held) j t);
+        each = λ j m. settled .each j (without-member (block x s align) (b .held) j m);
       }
-
-  extended-settled : (by : ℕ) → Fair (b .heap) → Settled (boxAfter (extend by) b (extended by (b .heap) (b .holes)))
-  unfolding extended gathered grown boxAfter heldAfter
-  extended-settled by f =
+  change-settled (Change.extend by) n fit st p t =
       let h = b .heap in
+      let f = st .ruled .fair in
       let s = downTo grain (h .pending + by) in
       by-test (λ (o : Outcome). Settled (boxAfter (extend by) b o)) (ltb (h .pending + by) minSize) _ _
       (λ e. record { filled = settled .filled; each = settled .each })
@@ -168,46 +167,23 @@ module _ (b : Box) (settled : Settled b) where
         each = settled .each;
       })
 
-opened-settled : (b : Box) (len : ℕ) (base : Addr) (named : ℕ)
-    → Settled (boxAfter (opening base named) b (accepted (opening base named) len (b .heap) (b .holes)))
-unfolding accepted boxAfter heldAfter opened added
-opened-settled b len base named =
-    let k = onlyHole base named in
-    let size : end k .0 - k .addr .0 ≡ k .size = omega arith in
-    record { filled = λ y. rw size (omega arith); each = λ k m. absurd (List·Memᴰ·not-nil m) }
-
--- ---- any call that is honest
+  accepted-settled : (c : Call) (n : ℕ) → Fits c → Passes (tests c n (b .heap) (b .holes)) → HonestCall c (accepted c n (b .heap) (b .holes)) b
+      → Settled (boxAfter c b (accepted c n (b .heap) (b .holes)))
+  unfolding tests accepted boxAfter heldAfter opened added
+  accepted-settled (opening base named) n f p t =
+      let k = onlyHole base named in
+      let size : end k .0 - k .addr .0 ≡ k .size = omega arith in
+      record { filled = λ y. rw size (omega arith); each = λ k m. absurd (List·Memᴰ·not-nil m) }
+  accepted-settled (change c) n f p t =
+      let (st, q) = passed-opened n (b .heap) (b .holes) (changeTests c (b .heap) (b .holes)) p in change-settled c n f st q t
+  accepted-settled (report r) n f p t = settled
 
 -- a refusal changes no box
-settles : (c : Call) (n : ℕ) (b : Box) → Settled b
-    → (Passes (tests c n (b .heap) (b .holes)) → Settled (boxAfter c b (accepted c n (b .heap) (b .holes))))
-    → Settled (boxAfter c b (comesTo c n b))
-settles c n b settled =
-    by-decided (λ (o : Outcome). Settled (boxAfter c b o)) c n (b .heap) (b .holes) (λ r. unfold boxAfter in settled)
-
-call-settled : (c : Call) (n : ℕ) (b : Box) → Fits c → HonestCall c n b → Settled b → Settled (boxAfter c b (comesTo c n b))
-unfolding tests boxAfter accepted
-call-settled (opening base named) n b f t settled = settles (opening base named) n b settled (λ p. opened-settled b n base named)
-call-settled (allocate s align) n b f t settled =
-    settles (allocate s align) n b settled
-    (λ p.
-    taken-settled b settled s align (find (rounded s) align (b .holes)) (passed-valid s align (f .1) (p .1 .1 .1 .0))
-    (passed-stands n (b .heap) (b .holes) (p .1 .0) (p .1 .1 .0) .sound)
-    refl)
-call-settled (free x s align) n b f t settled =
-    by-decided
-    (λ (o : Outcome).
-    ((a : Answer) (h : Heap) (ks : List Hole) → o ≡ done a h ks → List·Memᴰ (block x s align) (b .held))
-    → Settled (boxAfter (free x s align) b o))
-    (free x s align) n (b .heap) (b .holes)
-    (λ r q. settled)
-    (λ p q. given-settled b settled x s align (unfold given in q _ _ _ refl))
-    t
-call-settled (extend by) n b f t settled =
-    settles (extend by) n b settled
-    (λ p. extended-settled b settled by (passed-stands n (b .heap) (b .holes) (p .1 .0) (p .1 .1 .0) .ruled .fair))
-call-settled list n b f t settled = settles list n b settled (λ p. settled)
-call-settled room n b f t settled = settles room n b settled (λ p. settled)
+call-settled : (c : Call) (n : ℕ) (b : Box) → Fits c → HonestCall c (comesTo c n b) b → Settled b → Settled (boxAfter c b (comesTo c n b))
+unfolding boxAfter
+call-settled c n b f t settled =
+    by-decided (λ (o : Outcome). HonestCall c o b → Settled (boxAfter c b o)) c n (b .heap) (b .holes) (λ r u. settled)
+    (accepted-settled b settled c n f) t
 
 pub ends-settled : (asks : List Ask) (b : Box) → AllFit asks → Honest asks b → Settled b → Settled (ends asks b)
 unfolding ends nextBox

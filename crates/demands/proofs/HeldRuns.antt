@@ -5,7 +5,6 @@ use mathlib.Core.List.{List, [], _∷_, _++_, List·Memᴰ, List·Memᴰ·not-ni
 use mathlib.Core.Logic.{inl, inr, ⊎-elim}
 use Prim.Native.Nat.{ℕ, _+_, _-_, _≤_, _<_}
 use native.Mathlib.Omega.{arith}
-use lib.Dec.{ltb}
 use lib.ListN.{length, getD}
 use borrow.Author.Tests.{eqb-true, not-false}
 use Rattle.rules.specs.declared.Addr.{Addr}
@@ -14,19 +13,19 @@ use Rattle.rules.specs.declared.Heap.{Heap}
 use Rattle.rules.specs.Fixed.{minSize}
 use Rattle.rules.specs.Kinds.{addr, same}
 use Rattle.rules.specs.Sound.{holes}
-use Rattle.rules.specs.Allocate.{rounded, Found, nothing, found, find}
-use Rattle.rules.specs.Calls.{Call, opening, allocate, free, extend, list, room, Outcome, refused, told, done, taken, given, grown, gathered, extended, accepted}
+use Rattle.rules.specs.Allocate.{rounded}
+use Rattle.rules.specs.Calls.{Call, opening, change, report, free, Outcome, refused, told, done, given, accepted}
 use Rattle.rules.specs.Refusals.{tests, unless}
 use Rattle.rules.specs.Outcome.{decided, outcome, after, Rows}
 use Rattle.rules.specs.InWords.{endOf, Sound, NoSpan}
 use Rattle.rules.specs.Runs.{Fits, Ask, calls, reads, AllFit, Block, Box, start, comesTo, boxAfter, nextBox, ends}
 use Rattle.rules.specs.Statements.{Occupied, Tiles, HeldTile, HeldIsFreed, HeldUntouched}
-use Rattle.rules.proofs.Cases.{by-le, by-test, or-left}
+use Rattle.rules.proofs.Cases.{by-le, or-left}
 use Rattle.rules.proofs.Layouts.{rounded-least}
 use Rattle.rules.proofs.SoundWords.{rounded-rounds}
 use Rattle.rules.proofs.TestWords.{means-fails, no-span}
 use Rattle.rules.proofs.Good.{sound-decided, valid-passes}
-use Rattle.rules.proofs.Passes.{Passes, by-decided}
+use Rattle.rules.proofs.Passes.{Passes, by-decided, by-change}
 use Rattle.rules.proofs.SoundKept.{sound-kept}
 use Rattle.rules.proofs.MemoryWords.{memory}
 use Rattle.rules.proofs.Unaltered.{refusals-keep, tells-only}
@@ -122,24 +121,12 @@ Based h (told a ks) = Unit {0}
 Based h (done a h′ ks) = h′ .base ≡ h .base
 
 module _ (h : Heap) (ks : List Hole) where
-  taken-based : (s align : ℕ) (f : Found) → Based h (taken s align h ks f)
-  unfolding taken
-  taken-based s align nothing = tt
-  taken-based s align (found front k back) = refl
-
-  extended-based : (by : ℕ) → Based h (extended by h ks)
-  unfolding extended gathered grown
-  extended-based by = by-test (Based h) (ltb (h .pending + by) minSize) _ _ (λ e. refl) (λ e. refl)
-
   accepted-based : (c : Call) (len : ℕ) → (h .bottom .0 ≡ 0 → ⊥) → Passes (tests c len h ks) → Based h (accepted c len h ks)
-  unfolding tests accepted given
+  unfolding tests accepted
   accepted-based (opening base named) len n p =
       absurd (n (eqb-true (h .bottom .0) 0 (not-false (same (h .bottom) (addr 0)) (or-left _ _ (p .0)))))
-  accepted-based (allocate s align) len n p = taken-based (rounded s) align (find (rounded s) align ks)
-  accepted-based (free x s align) len n p = refl
-  accepted-based (extend by) len n p = extended-based by
-  accepted-based list len n p = tt
-  accepted-based room len n p = tt
+  accepted-based (change c) len n p = by-change (Based h) h ks (λ r e. tt) (λ a h′ js e p. e) c len
+  accepted-based (report r) len n p = tt
 
   decided-based : (c : Call) (len : ℕ) → (h .bottom .0 ≡ 0 → ⊥) → Based h (decided c len h ks)
   decided-based c len n = by-decided (Based h) c len h ks (λ r. tt) (accepted-based c len n)

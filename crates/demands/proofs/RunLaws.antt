@@ -1,36 +1,37 @@
 -- What a run of calls tells, and the holes that it leaves, follow from the calls alone, whatever the memories; and every heap of a run is
 -- unopened or sound. Assumes nothing.
 use mathlib.Core.Path.{_≡_, refl, sym, _∙_}
-use mathlib.Core.Bool.{true, false, cond}
-use mathlib.Core.List.{List, [], _∷_, _++_, List·Memᴰ, List·Memᴰ·head, List·Memᴰ·tail}
+use mathlib.Core.Bool.{Bool, false, cond}
+use mathlib.Core.List.{List, [], _∷_, List·Memᴰ, List·Memᴰ·head, List·Memᴰ·tail}
 use mathlib.Core.Logic.{_⊎_, inl, inr}
 use Prim.Native.Nat.{ℕ, suc, _+_, _-_, _≤_, _<_}
 use native.Mathlib.Omega.{arith}
-use lib.Dec.{ltb}
+use lib.Dec.{eqb}
 use lib.ListN.{length, getD}
-use borrow.Author.Tests.{ne-eqb, eqb-false}
+use borrow.Author.Tests.{ne-eqb}
 use Rattle.rules.specs.declared.Addr.{Addr}
 use Rattle.rules.specs.declared.Hole.{Hole}
 use Rattle.rules.specs.declared.Heap.{Heap}
 use Rattle.rules.specs.declared.Refusal.{Refusal}
-use Rattle.rules.specs.declared.Refusal.the-variants.{Opened, OtherLength, NotSound}
-use Rattle.rules.specs.Fixed.{minSize}
+use Rattle.rules.specs.declared.Refusal.the-variants.{Opened, OtherLength}
 use Rattle.rules.specs.Tests.{any}
 use Rattle.rules.specs.Kinds.{addr, same}
 use Rattle.rules.specs.Holes.{holesFrom}
-use Rattle.rules.specs.Sound.{unopened, most, sound, holes}
-use Rattle.rules.specs.Allocate.{rounded, Found, nothing, found, find}
-use Rattle.rules.specs.Calls.{Call, opening, allocate, free, extend, list, room, Outcome, refused, told, done, taken, given, gathered, grown, extended, accepted}
+use Rattle.rules.specs.Sound.{unopened, most, holes}
+use Rattle.rules.specs.Changes.{Change}
+use Rattle.rules.specs.Calls.{Call, opening, change, report, Outcome, refused, told, done, accepted}
 use Rattle.rules.specs.Answers.{refusalNumbers}
-use Rattle.rules.specs.Refusals.{Test, openedTests, tests, unless}
+use Rattle.rules.specs.Refusals.{Test, changeTests, tests, unless}
 use Rattle.rules.specs.Outcome.{decided, outcome, leaves, after, Rows, rowsAfter}
 use Rattle.rules.specs.InWords.{Sound}
 use Rattle.rules.specs.Runs.{Fits, Reader, reading, Ask, calls, reads, AllFit, Told, answers, says, Kept, Run, end, own, other, asked, Box, start, comesTo, boxAfter, answerOf, nextBox, tellBox, tells, ends}
 use Rattle.rules.specs.Statements.{FollowsFromCalls, SideBySide, NeverUnsound}
-use Rattle.rules.proofs.Cases.{cases, apart, by-test, or-left}
+use Rattle.rules.proofs.Cases.{cases, by-eq, by-test, apart}
 use Rattle.rules.proofs.Lists.{SameHeads, frame}
-use Rattle.rules.proofs.Decide.{unless-4, rest, Opens}
-use Rattle.rules.proofs.SoundWords.{ruled-words, words-sound}
+use Rattle.rules.proofs.Decide.{unless-3, unless-4, rest, Opens, decided-later}
+use Rattle.rules.proofs.SoundWords.{ruled-words}
+use Rattle.rules.proofs.Good.{sound-decided}
+use Rattle.rules.proofs.Passes.{by-change}
 use Rattle.rules.proofs.SoundKept.{Keeps, decided-keeps, outcome-keeps}
 use Rattle.rules.proofs.MemoryWords.{stands-read}
 
@@ -99,11 +100,8 @@ decided-elsewhere : (c : Call) (n : ℕ) (h : Heap) (ks : List Hole) → (h .bot
     → decided c n h ks ≡ refused (elsewhere c)
 unfolding decided tests
 decided-elsewhere (opening base named) n h ks o d = unfold unless in rw (ne-eqb (h .bottom .0) 0 o)
-decided-elsewhere (allocate s align) n h ks o d = unless-4 n h ks (rest (allocate s align) h ks) _ o d
-decided-elsewhere (free x s align) n h ks o d = unless-4 n h ks (rest (free x s align) h ks) _ o d
-decided-elsewhere (extend by) n h ks o d = unless-4 n h ks (rest (extend by) h ks) _ o d
-decided-elsewhere list n h ks o d = unless-4 n h ks [] _ o d
-decided-elsewhere room n h ks o d = unless-4 n h ks [] _ o d
+decided-elsewhere (change c) n h ks o d = unless-4 n h ks (changeTests c h ks) _ o d
+decided-elsewhere (report r) n h ks o d = unless-4 n h ks [] _ o d
 
 module _
     (c : Call) (n : ℕ) (b : Box) (h : Heap) (m w : List ℕ) (f : Follows b h m) (o : h .bottom .0 ≡ 0 → ⊥)
@@ -191,79 +189,58 @@ ends-whole (reads x ∷ asks) b fit v = ends-whole asks b fit v
 
 -- ---- no call of it is refused with 5
 
-abbrev no : Refusal → ℕ
-no r = refusalNumbers r .no
+abbrev five : Refusal → Bool
+five r = eqb (refusalNumbers r .no) 5
 
 abbrev NoFive : Outcome → Type 0
-NoFive (refused r) = no r ≡ 5 → ⊥
+NoFive (refused r) = five r ≡ false
 NoFive (told a ks) = Unit {0}
 NoFive (done a h ks) = Unit {0}
 
--- each test that gives 5 fails, if it is come to
+-- none of the tests gives 5
 abbrev Spare : List Test → Type 0
 Spare [] = Unit {0}
-Spare (t ∷ ts) = (no (t .gives) ≡ 5 → any (t .«exactly-if») ≡ false) × (any (t .«exactly-if») ≡ false → Spare ts)
+Spare (t ∷ ts) = (five (t .gives) ≡ false) × Spare ts
 
 unless-spare : (ts : List Test) (o : Outcome) → Spare ts → NoFive o → NoFive (unless ts o)
 unfolding unless
 unless-spare [] o s n = n
 unless-spare (t ∷ ts) o s n =
-    by-test NoFive (any (t .«exactly-if»)) (refused (t .gives)) (unless ts o)
-    (λ e five. apart e (s .0 five))
-    (λ e. unless-spare ts o (s .1 e) n)
+    by-test NoFive (any (t .«exactly-if»)) (refused (t .gives)) (unless ts o) (λ e. s .0) (λ e. unless-spare ts o (s .1) n)
 
-module _ (n : ℕ) (h : Heap) (ks : List Hole) where
-  taken-spare : (s align : ℕ) (f : Found) → NoFive (taken s align h ks f)
-  unfolding taken refusalNumbers
-  taken-spare s align nothing = λ e. omega arith
-  taken-spare s align (found front k back) = tt
-
-  extended-spare : (by : ℕ) → NoFive (extended by h ks)
-  unfolding extended gathered grown
-  extended-spare by = by-test NoFive (ltb (h .pending + by) minSize) _ _ (λ e. tt) (λ e. tt)
-
-  module _ (v : (h .bottom .0 ≡ 0 → ⊥) → sound h ks ≡ true) where
-    opened-spare : (ts : List Test) → Spare ts → Spare (openedTests n h ks ++ ts)
-    unfolding refusalNumbers
-    opened-spare ts s = (
-      λ e. absurd (omega arith),
-      λ p. (
-        λ e. absurd (omega arith),
-        λ q. (λ e. rw (v (eqb-false (h .bottom .0) 0 (or-left (same (h .bottom) (addr 0)) false p))), λ e. s),
-      ),
-    )
-
-    decided-spare : (c : Call) → NoFive (decided c n h ks)
-    unfolding decided tests accepted given refusalNumbers
-    decided-spare (opening base named) =
-        unless-spare (tests (opening base named) n h ks) _
-        (λ e. absurd (omega arith), λ e. (λ e. absurd (omega arith), λ e. tt)) tt
-    decided-spare (allocate s align) =
-        unless-spare (tests (allocate s align) n h ks) _
-        (opened-spare (rest (allocate s align) h ks) (λ e. absurd (omega arith), λ e. tt))
-        (taken-spare (rounded s) align (find (rounded s) align ks))
-    decided-spare (free x s align) =
-        unless-spare (tests (free x s align) n h ks) _
-        (opened-spare (rest (free x s align) h ks) (λ e. absurd (omega arith), λ e. (λ e. absurd (omega arith), λ e. tt)))
-        tt
-    decided-spare (extend by) =
-        unless-spare (tests (extend by) n h ks) _
-        (opened-spare (rest (extend by) h ks) (λ e. absurd (omega arith), λ e. tt))
-        (extended-spare by)
-    decided-spare list = unless-spare (tests list n h ks) _ (opened-spare [] tt) tt
-    decided-spare room = unless-spare (tests room n h ks) _ (opened-spare [] tt) tt
-
-whole-sound : (b : Box) → Whole b → (b .heap .bottom .0 ≡ 0 → ⊥) → sound (b .heap) (b .holes) ≡ true
-whole-sound b (inl e) o = absurd (o (rw e))
-whole-sound b (inr s) o = words-sound (b .heap) (b .holes) s
-
-whole-spare : (b : Box) → Whole b → (c : Call) (n : ℕ) → comesTo c n b ≡ refused NotSound → ⊥
+change-spare : (c : Change) (h : Heap) (ks : List Hole) → Spare (changeTests c h ks)
 unfolding refusalNumbers
-whole-spare b v c n e =
-    let p = rw e at (decided-spare n (b .heap) (b .holes) (whole-sound b v) c) in
-    p refl
+change-spare (Change.allocate s align) h ks = (refl, tt)
+change-spare (Change.free x s align) h ks = (refl, (refl, tt))
+change-spare (Change.extend by) h ks = (refl, tt)
+
+-- behind 3, 4 and 5
+rest-spare : (c : Call) (n : ℕ) (h : Heap) (ks : List Hole) → NoFive (unless (rest c h ks) (accepted c n h ks))
+unfolding unless accepted
+rest-spare (opening base named) n h ks = tt
+rest-spare (change c) n h ks =
+    unless-spare (changeTests c h ks) _ (change-spare c h ks) (by-change NoFive h ks (λ r e. e) (λ a h′ js e p. tt) c n)
+rest-spare (report r) n h ks = tt
+
+later-spare : (c : Call) (n : ℕ) (b : Box) → Opens c ≡ false → Whole b → NoFive (comesTo c n b)
+unfolding refusalNumbers
+later-spare c n b later (inl e) =
+    rw (decided-later c n (b .heap) (b .holes) later, unless-3 n (b .heap) (b .holes) (rest c (b .heap) (b .holes)) _ (rw e))
+later-spare c n b later (inr s) =
+    by-eq n (b .heap .len)
+    (λ d. rw (sound-decided c n (b .heap) (b .holes) later d s) (rest-spare c n (b .heap) (b .holes)))
+    (λ d.
+    rw (decided-elsewhere c n (b .heap) (b .holes) (λ z. omega (arith, s .0 .base, s .0 .bottom .above)) d, later))
+
+whole-spare : (c : Call) (n : ℕ) (b : Box) → Whole b → NoFive (comesTo c n b)
+unfolding decided tests accepted refusalNumbers
+whole-spare (opening base named) n b v =
+    unless-spare (tests (opening base named) n (b .heap) (b .holes)) _ (refl, (refl, tt)) tt
+whole-spare (change c) n b v = later-spare (change c) n b refl v
+whole-spare (report r) n b v = later-spare (report r) n b refl v
 
 pub never-unsound : NeverUnsound
+unfolding refusalNumbers
 never-unsound asks fit =
     let v = ends-whole asks start fit (inl refl) in
-    (v, λ c n f. whole-spare (ends asks start) v c n)
+    (v, λ c n f e. apart refl (rw e at (whole-spare c n (ends asks start) v)))

@@ -13,7 +13,8 @@ use Rattle.rules.specs.declared.Answer.{Answer}
 use Rattle.rules.specs.Fixed.{grain}
 use Rattle.rules.specs.Round.{Power, downTo}
 use Rattle.rules.specs.Allocate.{rounded, candidate, find}
-use Rattle.rules.specs.Calls.{Call, opening, allocate, free, extend, list, room, Outcome, done}
+use Rattle.rules.specs.Changes.{Change, Report}
+use Rattle.rules.specs.Calls.{Call, opening, change, report, allocate, free, extend, list, room, Outcome, done}
 use Rattle.rules.specs.Outcome.{Rows}
 use Rattle.rules.specs.InWords.{SoundHoles, Valid, RoomAt, NoLayout}
 use Rattle.rules.specs.Runs.{Fits}
@@ -185,8 +186,8 @@ module _ (b e : Behaviour) (sb : Statements b) (se : Statements e) (h : Heap) (m
 
   pub settled : (c : Call) → Fits c → b .outcome c h m ≡ e .outcome c h m
   settled (opening base named) f = opening-settled base named f
-  settled (allocate s align) f = allocate-settled s align f
-  settled (free x s align) f = free-settled x s align f
-  settled (extend by) f = extend-settled by f
-  settled list f = list-settled
-  settled room f = room-settled
+  settled (change (Change.allocate s align)) f = allocate-settled s align f
+  settled (change (Change.free x s align)) f = free-settled x s align f
+  settled (change (Change.extend by)) f = extend-settled by f
+  settled (report Report.list) f = list-settled
+  settled (report Report.room) f = room-settled

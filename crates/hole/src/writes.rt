@@ -83,7 +83,7 @@ fn put_head(arena: &mut [u8], at: Place, head: Head)
 
 // Writes a head at its place; at none, nothing.
 fn put(arena: &mut [u8], w: Write)
-    requires { ⌜ Inside (now arena) w ⌝ }
+    requires { ⌜ Inside (now arena) (w .at) ⌝ }
     ensures { λ _. ⌜ now (arena .exit) ≡ Inner.put w (now (arena .entry)) ⌝ }
 {
     let at = w.at;
@@ -96,7 +96,7 @@ fn put(arena: &mut [u8], w: Write)
 
 // Writes what a call decided, and gives back its heap and its answer. Nothing else writes a head.
 pub fn write(arena: &mut [u8], d: Decided) -> Done
-    requires { ⌜ Inside (now arena) (d .heads .one) × Inside (now arena) (d .heads .two) ⌝ }
+    requires { ⌜ Inside (now arena) (d .heads .one .at) × Inside (now arena) (d .heads .two .at) ⌝ }
     ensures { λ r. ⌜ (r .answer ≡ d .answer) × (r .heap ≡ d .heap) × (now (arena .exit) ≡ written (d .heads) (now (arena .entry))) ⌝ }
 {
     let heads = d.heads;

@@ -1,6 +1,6 @@
 // The two calls that a program makes most, on a heap that is lent and changed in place.
 //
-// Each is its by-value call (crates allocating and freeing) and no more: the heap behind the reference
+// Each is its by-value call (crates allocate and free) and no more: the heap behind the reference
 // is copied out, handed to the call, and the heap that the call hands back is stored there. So each
 // ensures what that call ensures, of the heap as it was when the reference was lent and as it is at the
 // end.
@@ -15,7 +15,7 @@ ghost use Rattle.rules.specs.Outcome.{after};
 pub fn allocate(heap: &mut Heap, arena: &mut [u8], size: u64, align: u64) -> Answer
     ensures { λ r. ⌜ (r ≡ after (Calls.allocate size align) (now (heap .entry)) (now (arena .entry)) .answer) × (now (heap .exit) ≡ after (Calls.allocate size align) (now (heap .entry)) (now (arena .entry)) .heap) × (now (arena .exit) ≡ after (Calls.allocate size align) (now (heap .entry)) (now (arena .entry)) .arena) ⌝ }
 {
-    let done = allocating::allocate(*heap, arena, size, align);
+    let done = allocate::allocate(*heap, arena, size, align);
     *heap = done.heap;
     done.answer
 }
@@ -24,7 +24,7 @@ pub fn allocate(heap: &mut Heap, arena: &mut [u8], size: u64, align: u64) -> Ans
 pub fn free(heap: &mut Heap, arena: &mut [u8], addr: Addr, size: u64, align: u64) -> Answer
     ensures { λ r. ⌜ (r ≡ after (Calls.free addr size align) (now (heap .entry)) (now (arena .entry)) .answer) × (now (heap .exit) ≡ after (Calls.free addr size align) (now (heap .entry)) (now (arena .entry)) .heap) × (now (arena .exit) ≡ after (Calls.free addr size align) (now (heap .entry)) (now (arena .entry)) .arena) ⌝ }
 {
-    let done = freeing::free(*heap, arena, addr, size, align);
+    let done = free::free(*heap, arena, addr, size, align);
     *heap = done.heap;
     done.answer
 }

@@ -27,8 +27,8 @@ use Rattle.cursor.specs.declared.Cursor.{Cursor}
 use Rattle.cursor.proofs.Turn.{start}
 use Rattle.cursor.specs.Walk.{lastPlace}
 use Rattle.hole_list.specs.Settled.{Settled}
-use Rattle.joining.specs.Span.{Free, mergedHead}
-use Rattle.hole_list.proofs.Linked.{by-last, last-none, last-some}
+use Rattle.joining.specs.Span.{Free, MayMerge, mergedHead}
+use Rattle.joining.proofs.Linked.{by-last, last-none, last-some}
 
 -- ---- in front of holes
 
@@ -221,15 +221,16 @@ bounds h m g front back s =
     }
 
 -- of the hole behind it
-abbrev pub BoundsBehind : Heap → List ℕ → Hole → Place → Type 0
-BoundsBehind h m g p =
-    (p .0 ≡ none .0 → ⊥)
-    → (h .base .0 + p .0 ≤ addrLimit) × (p .0 + minSize ≤ length m) × (g .size + headAt m p .size ≤ addrLimit)
-
 pub bounds-behind : (h : Heap) (m : List ℕ) (g : Hole) (back : List Hole) → Fair h → length m ≡ h .len → h .base .0 ≤ g .addr .0
-    → Rises (end g .0) (h .base .0 + h .len) back → Holds (h .base) m back none → BoundsBehind h m g (firstOf (h .base) back)
+    → Rises (end g .0) (h .base .0 + h .len) back → Holds (h .base) m back none → MayMerge (h .base) m g (firstOf (h .base) back)
 unfolding firstOf
-bounds-behind h m g [] f e l r t n = absurd (n refl)
-bounds-behind h m g (k ∷ ks) f e l r t n =
+bounds-behind h m g [] f e l r t =
+    record { ends = omega arith; low = λ n. absurd (n refl); inside = λ n. absurd (n refl); sum = λ n. absurd (n refl) }
+bounds-behind h m g (k ∷ ks) f e l r t =
     let u = rises-le (k .addr .0 + k .size) (h .base .0 + h .len) ks (r .2) in
-    (omega arith, omega arith, rw (t .0) (omega arith))
+    record {
+      ends = omega arith;
+      low = λ n. omega arith;
+      inside = λ n. omega arith;
+      sum = λ n. rw (t .0) (omega arith);
+    }

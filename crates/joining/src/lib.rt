@@ -1,38 +1,71 @@
-// A free span among the holes: it becomes a hole and joins every hole that it touches.
+// The list of holes, relinked: a hole before leads to a new place, and a free span becomes a hole and
+// joins every hole that it touches. Nothing is written here: a call decides which heads are to be.
 use cursor::Cursor;
-use hole::put_head;
+use hole::addr_of;
+use hole::nothing;
+use hole::place_of;
 use hole::read_head;
-use hole_list::link;
 use rules::Addr;
 use rules::Head;
 use rules::Heap;
 use rules::Hole;
 use rules::NONE;
 use rules::Place;
+use rules::Write;
+use rules::Writes;
 ghost use mathlib.Core.Path.{_≡_};
-ghost use Prim.Native.Nat.{_+_, _≤_};
-ghost use lib.ListN.{length};
-ghost use Rattle.rules.specs.Fixed.{minSize, addrLimit};
-ghost use Rattle.rules.specs.Kinds.{none};
-ghost use Rattle.rules.specs.Holes.{headAt, putHead, putHeads};
 ghost use Rattle.rules.specs.Sound.{holes};
 ghost use Rattle.rules.specs.Free.{freed};
-ghost use Rattle.rules.specs.Calls.{renewed};
-ghost use Rattle.rules.specs.Inner.{Bytes};
-ghost use Rattle.hole_list.specs.Settled.{Settled, linkedHeap, linkedArena};
-ghost use Rattle.joining.specs.Span.{Free, mergedHead};
+ghost use Rattle.rules.specs.Inner.{Inside, Relinks};
+ghost use Rattle.hole_list.specs.Settled.{Settled};
+ghost use Rattle.joining.specs.Span.{Free, MayMerge, MayEnd, mergedHead, linkedTo, endsAt};
+
+// What becomes of the list: the place of its first hole, and the heads to be written.
+pub struct Relinked {
+    pub first: Place,
+    pub heads: Writes,
+}
+
+// The hole before leads to a place, or the list begins there where no hole is before; one more head may
+// be written first.
+pub fn link(first: Place, arena: &[u8], prev: Place, to: Place, one: Write) -> Relinked
+    requires { ⌜ Inside (now arena) prev ⌝ }
+    ensures { λ r. ⌜ r ≡ linkedTo first (now (arena .entry)) prev to one ⌝ }
+{
+    if prev.0 == NONE {
+        return Relinked {
+            first: to,
+            heads: Writes {
+                one,
+                two: nothing(),
+            },
+        };
+    }
+    let before = read_head(arena, prev);
+    let two = Write {
+        at: prev,
+        head: Head {
+            size: before.size,
+            next: to,
+        },
+    };
+    Relinked {
+        first,
+        heads: Writes { one, two },
+    }
+}
 
 // The head of a span that is followed by a hole at a place, or by none: joined with it if it touches
 // it, else leading to it.
 fn try_merge_next(base: Addr, arena: &[u8], span: Hole, hole: Place) -> Head
-    requires { ⌜ (span .addr .0 + span .size ≤ addrLimit) × ((hole .0 ≡ none .0 → ⊥) → (base .0 + hole .0 ≤ addrLimit) × (hole .0 + minSize ≤ length (now arena)) × (span .size + headAt (now arena) hole .size ≤ addrLimit)) ⌝ }
+    requires { ⌜ MayMerge base (now arena) span hole ⌝ }
     ensures { λ r. ⌜ r ≡ mergedHead base (now (arena .entry)) span hole ⌝ }
 {
     let size = span.size;
     if hole.0 == NONE {
         return Head { size, next: hole };
     }
-    if span.addr.0 + size != base.0 + hole.0 {
+    if span.addr.0 + size != addr_of(base, hole).0 {
         return Head { size, next: hole };
     }
     let head = read_head(arena, hole);
@@ -43,41 +76,47 @@ fn try_merge_next(base: Addr, arena: &[u8], span: Hole, hole: Place) -> Head
     }
 }
 
-// The span as a hole of its own, with the hole before it, or the heap, leading to it.
-fn insert_after(h: Heap, arena: &mut [u8], prev: Place, at: Place, head: Head) -> Heap
-    requires { ⌜ Bytes (now arena) × (at .0 + minSize ≤ length (now arena)) × ((prev .0 ≡ none .0 → ⊥) → prev .0 + minSize ≤ length (now arena)) ⌝ }
-    ensures { λ r. ⌜ (r ≡ linkedHeap h prev at) × (now (arena .exit) ≡ linkedArena (putHead (now (arena .entry)) at head) prev at) ⌝ }
+// A hole at a place, where there is one, ends at another place.
+fn ends_at(arena: &[u8], prev: Place, at: Place) -> bool
+    requires { ⌜ MayEnd (now arena) prev ⌝ }
+    ensures { λ r. ⌜ r ≡ endsAt (now (arena .entry)) prev at ⌝ }
 {
-    put_head(arena, at, head);
-    link(h, arena, prev, at)
+    if prev.0 == NONE {
+        return false;
+    }
+    let before = read_head(arena, prev);
+    prev.0 + before.size == at.0
 }
 
 // Inserts a span between the holes of a cursor. It is joined with the hole behind it, and then with
 // the one before.
-pub fn insert(h: Heap, arena: &mut [u8], cursor: Cursor, span: Hole) -> Heap
+pub fn insert(h: Heap, arena: &[u8], cursor: Cursor, span: Hole) -> Relinked
     requires { ⌜ Settled h (now arena) × Free h (holes h (now arena)) cursor span ⌝ }
-    ensures { λ r. ⌜ (r ≡ renewed h (freed span (holes h (now (arena .entry)))) (h .top) (h .pending) (h .used)) × (now (arena .exit) ≡ putHeads (h .base) (freed span (holes h (now (arena .entry)))) (now (arena .entry))) ⌝ }
+    ensures { λ r. ⌜ Relinks (h .base) (now (arena .entry)) (freed span (holes h (now (arena .entry)))) (r .first) (r .heads) ⌝ }
 {
     let base = h.base;
+    let first = h.first;
     let prev = cursor.prev;
     let hole = cursor.hole;
     let merged = try_merge_next(base, arena, span, hole);
-    let at = Place(span.addr.0 - base.0);
-    if prev.0 == NONE {
-        return insert_after(h, arena, prev, at, merged);
+    let next = merged.next;
+    let at = place_of(base, span.addr);
+    if !ends_at(arena, prev, at) {
+        return link(first, arena, prev, at, Write { at, head: merged });
     }
     let before = read_head(arena, prev);
-    if prev.0 + before.size != at.0 {
-        return insert_after(h, arena, prev, at, merged);
-    }
-    let next = merged.next;
-    put_head(
-        arena,
-        prev,
-        Head {
+    let one = Write {
+        at: prev,
+        head: Head {
             size: before.size + merged.size,
             next,
         },
-    );
-    h
+    };
+    Relinked {
+        first,
+        heads: Writes {
+            one,
+            two: nothing(),
+        },
+    }
 }

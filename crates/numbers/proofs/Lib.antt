@@ -6,3 +6,5 @@ pub mod Rules
 pub mod Refused
 -- what check says, and what it earns a call
 pub mod Verdicts
+-- what the readers say
+pub mod Reading

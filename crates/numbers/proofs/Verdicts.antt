@@ -76,15 +76,16 @@ fair-is : (v : Checked) → OneOf (0 ∷ []) (tagOf Verdict.the-type v) → v �
 fair-is Fair o = refl
 fair-is (No r) o = absurd (omega arith)
 
-module _ {v : Checked} {len : ℕ} (h : Heap) (m : List ℕ) (lent : len ≡ length m) (said : v ≡ checkedOf len h) where
-  -- the numbers keep their rules, and the arena has the length that they say
-  pub tested-lent : OneOf (0 ∷ []) (tagOf Verdict.the-type v) → Lent h m
-  tested-lent o =
-      let p = passes len h (sym said ∙ fair-is v o) in
-      record { fair = sound-fair h (p .1); lent = sym lent ∙ p .0 }
+-- the numbers keep their rules, and the arena has the length that they say
+pub record Tested (h : Heap) (m : List ℕ) : Type 0 where
+  pub lent : Lent h m
+  pub numbers : soundNumbers h ≡ true
 
-  pub tested-numbers : OneOf (0 ∷ []) (tagOf Verdict.the-type v) → soundNumbers h ≡ true
-  tested-numbers o = passes len h (sym said ∙ fair-is v o) .1
+module _ {v : Checked} {len : ℕ} (h : Heap) (m : List ℕ) (lent : len ≡ length m) (said : v ≡ checkedOf len h) where
+  pub tested : OneOf (0 ∷ []) (tagOf Verdict.the-type v) → Tested h m
+  tested o =
+      let p = passes len h (sym said ∙ fair-is v o) in
+      record { lent = record { fair = sound-fair h (p .1); lent = sym lent ∙ p .0 }; numbers = p .1 }
 
   -- the call refuses
   pub tested-no : (c : Call) → Opens c ≡ false → {r : Refusal} → v ≡ No r → Decides (after c h m) m (refusing h r)

@@ -1,2 +1,3 @@
--- What the contracts of src/ cite.
+-- What the contracts of src/ cite: of the tests, and of the readers.
 pub mod Checks
+pub mod Reads

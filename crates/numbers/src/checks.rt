@@ -9,10 +9,20 @@ use rules::Heap;
 use rules::MIN_SIZE;
 use rules::Refusal;
 ghost use mathlib.Core.Path.{_≡_};
+ghost use Prim.Native.Nat.{_≤_};
 ghost use Rattle.rules.specs.Tests.{any};
-ghost use Rattle.rules.specs.Sound.{soundNumbers};
+ghost use Rattle.rules.specs.Sound.{size, soundNumbers};
 ghost use Rattle.rules.specs.Refusals.{refusal1};
 ghost use Rattle.numbers.specs.Checks.{Based, checkedOf};
+
+// The bytes between bottom and top, of a heap whose numbers keep their rules: it needs no more of them
+// than this order.
+pub fn fair_size(h: Heap) -> u64
+    requires { ⌜ h .bottom .0 ≤ h .top .0 ⌝ }
+    ensures { λ r. ⌜ r ≡ size h ⌝ }
+{
+    h.top.0 - h.bottom.0
+}
 
 // The rules on top and pending, once those on base and bottom hold.
 fn sound_top(h: Heap) -> bool
@@ -20,11 +30,10 @@ fn sound_top(h: Heap) -> bool
     ensures { λ r. ⌜ r ≡ soundNumbers h ⌝ }
 {
     let top = h.top.0;
-    let bottom = h.bottom.0;
-    if top < bottom {
+    if top < h.bottom.0 {
         return false;
     }
-    let size = top - bottom;
+    let size = fair_size(h);
     if size % GRAIN != 0 {
         return false;
     }

@@ -1,14 +1,14 @@
 // Replays stored answers of the original: calls as wire frames on standard input, each followed by
 // the lines that the original gave, marked by '='. It runs the calls and says how many lines agree.
 // How the list was made: tests/against/sample.sh.
-use frame::ARENA;
-use frame::LONGEST;
-use frame::answer_line;
-use printing::LINE;
+use lines::ARENA;
+use lines::LINE;
+use lines::LONGEST;
+use lines::answer_line;
 use rules::Heap;
 ghost use Prim.Native.Nat.{_+_, _≤_};
 ghost use lib.ListN.{length};
-ghost use Rattle.frame.specs.Wire.{longest};
+ghost use Rattle.lines.specs.Wire.{longest};
 
 const INPUT: i32 = 0;
 
@@ -150,7 +150,7 @@ fn main() {
     let n = io::read_full(INPUT, &mut text);
     let t = replay(
         Tally {
-            heap: opening::empty(),
+            heap: open::empty(),
             at: 0,
             len: 0,
             agree: 0,

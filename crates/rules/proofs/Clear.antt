@@ -76,18 +76,12 @@ pub record Passed (h : Heap) (ks : List Hole) (g : Hole) : Type 0 where
 
 pub passed : (h : Heap) (ks : List Hole) (g : Hole) (align : ℕ) → any (refusal8 h ks g align) ≡ false → Passed h ks g
 passed h ks g align e =
-    let r = any-each (refusal8 h ks g align) e in
+    let (at8, (aligned, (low, (high, (over, (eight, (bottom8, (top8, none)))))))) = any-each (refusal8 h ks g align) e in
     record {
-      at8 = eqb-true (g .addr .0 % grain) 0 (not-false _ (r .0));
-      low = (
-        ltb-false (g .addr .0) (h .bottom .0) (r .1 .1 .0),
-        eqb-false (h .bottom .0 + grain) (g .addr .0) (r .1 .1 .1 .1 .1 .1 .0),
-      );
-      high = (
-        ltb-false (h .top .0) (end g .0) (r .1 .1 .1 .0),
-        eqb-false (end g .0 + grain) (h .top .0) (r .1 .1 .1 .1 .1 .1 .1 .0),
-      );
-      clear = (r .1 .1 .1 .1 .0, r .1 .1 .1 .1 .1 .0);
+      at8 = eqb-true (g .addr .0 % grain) 0 (not-false _ at8);
+      low = (ltb-false (g .addr .0) (h .bottom .0) low, eqb-false (h .bottom .0 + grain) (g .addr .0) bottom8);
+      high = (ltb-false (h .top .0) (end g .0) high, eqb-false (end g .0 + grain) (h .top .0) top8);
+      clear = (over, eight);
     }
 
 -- ---- hole by hole

@@ -31,7 +31,7 @@ pub mod Written
 pub mod SoundWords
 pub mod HoldWords
 pub mod TestWords
--- demand 1: refusals; what stays; the numbers of answers
+-- demand 1: what comes of a call; refusals; what stays; the numbers of answers
 pub mod Passes
 pub mod Refused
 pub mod Unaltered

@@ -42,14 +42,10 @@ down-is a x pos =
 pub down-by : {a m : ℕ} (x : ℕ) → 0 < a → m ≡ x % a → Below a x (x - m)
 down-by {a} x pos e = rw e (down-is a x pos)
 
-below-one : {a x r s : ℕ} → Below a x r → Below a x s → r ≡ s
-below-one {a} {x} {r} {s} p q =
-    let lo : r ≤ s = q .greatest r (p .multiple) (p .below) in
-    let hi : s ≤ r = p .greatest s (q .multiple) (q .below) in
-    omega arith
-
 pub below-is : {a x r : ℕ} → 0 < a → Below a x r → r ≡ downTo a x
-below-is {a} {x} pos p = below-one p (down-is a x pos)
+below-is {a} {x} {r} pos p =
+    let q = down-is a x pos in
+    omega (arith, q .greatest r (p .multiple) (p .below), p .greatest (downTo a x) (q .multiple) (q .below))
 
 -- ---- rounding up
 
@@ -68,14 +64,10 @@ up-is a x pos =
           λ y ey h. by-contra (upTo a x) y (λ k. omega (arith, multiples-apart a y (upTo a x) ey (b .multiple) k));
     }
 
-above-one : {a x r s : ℕ} → Above a x r → Above a x s → r ≡ s
-above-one {a} {x} {r} {s} p q =
-    let lo : s ≤ r = q .least r (p .multiple) (p .above) in
-    let hi : r ≤ s = p .least s (q .multiple) (q .above) in
-    omega arith
-
 pub above-is : {a x r : ℕ} → 0 < a → Above a x r → r ≡ upTo a x
-above-is {a} {x} pos p = above-one p (up-is a x pos)
+above-is {a} {x} {r} pos p =
+    let q = up-is a x pos in
+    omega (arith, q .least r (p .multiple) (p .above), p .least (upTo a x) (q .multiple) (q .above))
 
 -- what rounds x + (a - 1) down rounds x up
 pub below-above : {a x r : ℕ} → 0 < a → Below a (x + (a - 1)) r → Above a x r

@@ -2,7 +2,7 @@
 use mathlib.Core.Path.{_≡_, refl, ap}
 use mathlib.Core.Bool.{true, false, not}
 use mathlib.Core.List.{List, [], _∷_, _++_}
-use Prim.Native.Nat.{ℕ, _+_, _<_}
+use Prim.Native.Nat.{ℕ, _+_}
 use native.Mathlib.Omega.{arith}
 use lib.Dec.{ltb}
 use lib.ListN.{length}
@@ -10,22 +10,24 @@ use borrow.Author.Tests.{not-false}
 use Rattle.rules.specs.declared.Hole.{Hole}
 use Rattle.rules.specs.declared.Heap.{Heap}
 use Rattle.rules.specs.declared.Refusal.{Refusal}
-use Rattle.rules.specs.declared.Refusal.the-variants.{BadLayout, NoRoom, BadSpan, PastArena}
+use Rattle.rules.specs.declared.Refusal.the-variants.{Unopened, OtherLength, NotSound, BadLayout, NoRoom}
 use Rattle.rules.specs.declared.Answer.{Answer}
 use Rattle.rules.specs.Fixed.{minSize}
 use Rattle.rules.specs.Round.{Power}
 use Rattle.rules.specs.Tests.{any}
-use Rattle.rules.specs.Holes.{hole}
-use Rattle.rules.specs.Sound.{sound, holes}
+use Rattle.rules.specs.Sound.{soundNumbers, soundHoles, sound, holes}
 use Rattle.rules.specs.Allocate.{rounded, candidate, Found, nothing, found, find}
-use Rattle.rules.specs.Calls.{opening, allocate, free, extend, list, room, Outcome, refused, told, done, taken, given, gathered, grown, extended, accepted}
-use Rattle.rules.specs.Refusals.{refusal6, refusal8, refusal9, Test, test, openedTests, tests, unless}
+use Rattle.rules.specs.Changes.{Change}
+use Rattle.rules.specs.Calls.{opening, change, report, list, Outcome, refused, told, done, taken, given, gathered, grown, extended, accepted}
+use Rattle.rules.specs.Refusals.{refusal3, refusal4, Test, test, openedTests, changeTests, tests, unless}
 use Rattle.rules.specs.Outcome.{decided, outcome}
 use Rattle.rules.specs.InWords.{Rounds, RoomAt, NoLayout, NoSpan}
+use Rattle.rules.specs.Runs.{Fits}
 use Rattle.rules.specs.Behaviour.{ours}
-use Rattle.rules.specs.Statements.{Row, Decides, refusalsOf, RefusalsExactly}
+use Rattle.rules.specs.Statements.{Row, Decides, changeRows, refusalsOf, RefusalsExactly}
 use Rattle.rules.proofs.Cases.{cases, by-test, or-left}
 use Rattle.rules.proofs.Layouts.{layout-passed}
+use Rattle.rules.proofs.Decide.{one-test}
 use Rattle.rules.proofs.SoundWords.{rounded-rounds, rounds-rounded, sound-words, sound-means}
 use Rattle.rules.proofs.TestWords.{Means, means-eq, means-lt, means-not, means-last, means-rounds, no-start, no-layout, no-span}
 use Rattle.rules.proofs.Suits.{nothing-room, found-room}
@@ -74,21 +76,19 @@ extended-passes by h ks =
 
 module _ (h : Heap) (m : List ℕ) where
   -- 3, 4 and 5, then the others on a sound heap
-  opened-decides : (ts us : List Row) (qs : List Test) (o : Outcome) → Meets ts qs
-      → (sound h (holes h m) ≡ true → Passes qs → Decides us o)
-      → Decides (refusalsOf ours list h m ++ (ts ++ us)) (unless (openedTests (length m) h (holes h m) ++ qs) o)
-  unfolding unless
-  opened-decides ts us qs o n f =
-      decides (refusalsOf ours list h m) (ts ++ us) (openedTests (length m) h (holes h m)) (unless qs o) (
+  opened-decides : (us : List Row) (qs : List Test) (o : Outcome) → (sound h (holes h m) ≡ true → Decides us (unless qs o))
+      → Decides (refusalsOf ours list h m ++ us) (unless (openedTests (length m) h (holes h m) ++ qs) o)
+  unfolding unless sound
+  opened-decides us qs o f =
+      let ks = holes h m in
+      rw (one-test NotSound (soundNumbers h) (soundHoles h ks) qs o)
+      (decides (refusalsOf ours list h m) us
+      (test Unopened (refusal3 h) ∷ test OtherLength (refusal4 (length m) h) ∷ test NotSound (not (sound h ks) ∷ []) ∷ []) (unless qs o) (
         refl,
         means-last (means-eq (h .bottom .0) 0),
-        (
-          refl,
-          means-last (means-not (means-eq (length m) (h .len))),
-          (refl, means-last (means-not (sound-means h (holes h m))), tt),
-        ),
+        (refl, means-last (means-not (means-eq (length m) (h .len))), (refl, means-last (means-not (sound-means h ks)), tt)),
       )
-      (λ p. decides ts us qs o n (f (not-false (sound h (holes h m)) (or-left (not (sound h (holes h m))) false (p .1 .1 .0)))))
+      (λ p. f (not-false (sound h ks) (or-left (not (sound h ks)) false (p .1 .1 .0)))))
 
   -- 7: where no hole is found there is no room, and where one is there is
   room-decides : (s align : ℕ) (f : Found) → Power align → sound h (holes h m) ≡ true → find (rounded s) align (holes h m) ≡ f
@@ -111,31 +111,32 @@ module _ (h : Heap) (m : List ℕ) where
     λ n. done-passes _ _ _,
   )
 
+  change-decides : (c : Change) → Fits (change c) → sound h (holes h m) ≡ true
+      → Decides (changeRows ours c h m) (unless (changeTests c h (holes h m)) (accepted (change c) (length m) h (holes h m)))
+  unfolding accepted given
+  change-decides (Change.allocate s align) f e =
+      decides (row BadLayout (NoLayout s align) ∷ []) (row (NoRoom (length (holes h m))) _ ∷ [])
+      (changeTests (Change.allocate s align) h (holes h m)) _
+      (refl, no-layout s align (f .1), tt)
+      (λ p. room-decides s align (find (rounded s) align (holes h m)) (layout-passed s align (f .1) (p .0) .power) e refl)
+  change-decides (Change.free x s align) f e =
+      decides (changeRows ours (Change.free x s align) h m) [] (changeTests (Change.free x s align) h (holes h m)) _ (
+        refl,
+        no-layout s align (f .2),
+        (refl, means-rounds (λ r. NoSpan h (holes h m) (x .0) r align) s (no-span x (rounded s) h (holes h m) align), tt),
+      )
+      (λ p. done-passes _ _ _)
+  change-decides (Change.extend by) f e =
+      decides (changeRows ours (Change.extend by) h m) [] (changeTests (Change.extend by) h (holes h m)) _
+      (refl, means-last (means-lt (h .base .0 + h .len) (h .top .0 + h .pending + by)), tt)
+      (λ p. extended-passes by h (holes h m))
+
 pub refusals-exactly : RefusalsExactly ours
-unfolding outcome decided tests accepted given
+unfolding outcome decided tests unless accepted
 refusals-exactly (opening base named) h m f =
     decides (refusalsOf ours (opening base named) h m) [] (tests (opening base named) (length m) h (holes h m)) _
     (refl, means-last (means-not (means-eq (h .bottom .0) 0)), (refl, no-start (length m) base named, tt))
     (λ p. done-passes _ _ _)
-refusals-exactly (allocate s align) h m f =
-    opened-decides h m (row BadLayout (NoLayout s align) ∷ []) (row (NoRoom (length (holes h m))) _ ∷ [])
-    (test BadLayout (refusal6 s align) ∷ []) _ (refl, no-layout s align (f .1), tt)
-    (λ e p.
-    room-decides h m s align (find (rounded s) align (holes h m))
-    (layout-passed s align (f .1) (p .0) .power) e refl)
-refusals-exactly (free x s align) h m f =
-    opened-decides h m
-    (row BadLayout (NoLayout s align) ∷ row BadSpan ((r : ℕ) × Rounds s r × NoSpan h (holes h m) (x .0) r align) ∷ []) []
-    (test BadLayout (refusal6 s align) ∷ test BadSpan (refusal8 h (holes h m) (hole x (rounded s)) align) ∷ []) _ (
-      refl,
-      no-layout s align (f .2),
-      (refl, means-rounds (λ r. NoSpan h (holes h m) (x .0) r align) s (no-span x (rounded s) h (holes h m) align), tt),
-    )
-    (λ e p. done-passes _ _ _)
-refusals-exactly (extend by) h m f =
-    opened-decides h m (row PastArena (h .base .0 + h .len < h .top .0 + h .pending + by) ∷ []) []
-    (test PastArena (refusal9 by h) ∷ []) _
-    (refl, means-last (means-lt (h .base .0 + h .len) (h .top .0 + h .pending + by)), tt)
-    (λ e p. extended-passes by h (holes h m))
-refusals-exactly list h m f = opened-decides h m [] [] [] _ tt (λ e p. told-passes _ _)
-refusals-exactly room h m f = opened-decides h m [] [] [] _ tt (λ e p. told-passes _ _)
+refusals-exactly (change c) h m f =
+    opened-decides h m (changeRows ours c h m) (changeTests c h (holes h m)) _ (change-decides h m c f)
+refusals-exactly (report r) h m f = opened-decides h m [] [] _ (λ e. told-passes _ _)

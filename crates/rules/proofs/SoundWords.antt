@@ -169,13 +169,13 @@ sum-total (k ∷ ks) = rw (sum-total ks)
 pub holes-words : (h : Heap) (ks : List Hole) → soundHoles h ks ≡ true → SoundHoles h ks
 unfolding soundHoles leaveBefore
 holes-words h ks e =
-    let r = all-each (listRules h ks) e in
+    let (each, (rises, (first, (last, (sums, none))))) = all-each (listRules h ks) e in
     record {
-      each = lie-words h ks (r .0);
-      rise = rise-words ks (r .1 .0);
-      first = λ k back q. gap-words (h .bottom) (k .addr) (rw q at (r .1 .1 .0));
-      last = λ front k q. gap-words (end k) (h .top) (sym (leaves-last h front k) ∙ (rw q at (r .1 .1 .1 .0)));
-      sums = rw (sum-total ks) (eqb-true (total ks + h .used) (h .top .0 - h .bottom .0) (r .1 .1 .1 .1 .0));
+      each = lie-words h ks each;
+      rise = rise-words ks rises;
+      first = λ k back q. gap-words (h .bottom) (k .addr) (rw q at first);
+      last = λ front k q. gap-words (end k) (h .top) (sym (leaves-last h front k) ∙ (rw q at last));
+      sums = rw (sum-total ks) (eqb-true (total ks + h .used) (h .top .0 - h .bottom .0) sums);
     }
 
 pub words-holes : (h : Heap) (ks : List Hole) → SoundHoles h ks → soundHoles h ks ≡ true

@@ -2,24 +2,21 @@
 -- no more than one outcome meets a promise. Assumes nothing.
 use mathlib.Core.Path.{_≡_, refl, sym, _∙_}
 use mathlib.Core.List.{List, []}
-use Prim.Native.Nat.{ℕ, _+_, min}
-use lib.Dec.{ltb}
+use Prim.Native.Nat.{ℕ, min}
 use lib.ListN.{length, take}
 use lib.Seq.{take-nil}
 use Rattle.rules.specs.declared.Hole.{Hole}
 use Rattle.rules.specs.declared.Heap.{Heap}
 use Rattle.rules.specs.declared.Done.{Done}
 use Rattle.rules.specs.declared.Answer.{Answer}
-use Rattle.rules.specs.Fixed.{minSize}
 use Rattle.rules.specs.Sound.{holes}
-use Rattle.rules.specs.Allocate.{rounded, Found, nothing, found, find}
-use Rattle.rules.specs.Calls.{Call, opening, allocate, free, extend, list, room, Outcome, taken, given, gathered, grown, extended, accepted}
+use Rattle.rules.specs.Changes.{Report}
+use Rattle.rules.specs.Calls.{Call, opening, change, report, list, Outcome, accepted}
 use Rattle.rules.specs.Outcome.{outcome, leaves, after, Rows, over, inRows, leavesRows, rowsAfter}
 use Rattle.rules.specs.Behaviour.{ours}
 use Rattle.rules.specs.Statements.{RefusalsKeep, TellsOnly, OtherRows, NothingLoose}
-use Rattle.rules.proofs.Cases.{by-test}
 use Rattle.rules.proofs.Calls.{answer-refused, answer-told, rows-refused}
-use Rattle.rules.proofs.Passes.{by-decided}
+use Rattle.rules.proofs.Passes.{by-decided, by-change}
 
 pub refusals-keep : RefusalsKeep ours
 unfolding after leaves
@@ -47,24 +44,12 @@ module _ (r : Rows) where
   abbrev Stays : Outcome → Type 0
   Stays o = leavesRows r o ≡ r
 
-  taken-stays : (s align : ℕ) (h : Heap) (ks : List Hole) (f : Found) → Stays (taken s align h ks f)
-  unfolding taken leavesRows
-  taken-stays s align h ks nothing = refl
-  taken-stays s align h ks (found front k back) = refl
-
-  extended-stays : (by : ℕ) (h : Heap) (ks : List Hole) → Stays (extended by h ks)
-  unfolding extended gathered grown leavesRows
-  extended-stays by h ks =
-      by-test Stays (ltb (h .pending + by) minSize) _ _ (λ e. refl) (λ e. refl)
-
   accepted-stays : (c : Call) (len : ℕ) (h : Heap) (ks : List Hole) → (c ≡ list → ⊥) → Stays (accepted c len h ks)
-  unfolding accepted given leavesRows inRows
+  unfolding accepted leavesRows inRows
   accepted-stays (opening base named) len h ks n = refl
-  accepted-stays (allocate s align) len h ks n = taken-stays (rounded s) align h ks (find (rounded s) align ks)
-  accepted-stays (free x s align) len h ks n = refl
-  accepted-stays (extend by) len h ks n = extended-stays by h ks
-  accepted-stays list len h ks n = absurd (n refl)
-  accepted-stays room len h ks n =
+  accepted-stays (change c) len h ks n = by-change Stays h ks (λ x e. refl) (λ a h′ js b p. refl) c len
+  accepted-stays (report Report.list) len h ks n = absurd (n refl)
+  accepted-stays (report Report.room) len h ks n =
       let k = min (length (r .addrs)) (length (r .sizes)) in
       rw (none-over k (r .addrs), none-over k (r .sizes))
 

@@ -18,19 +18,30 @@ use Rattle.rules.specs.Holes.{hole, firstOf, largest}
 use Rattle.rules.specs.Sound.{size}
 use Rattle.rules.specs.Allocate.{rounded, candidate, Found, nothing, found, find, split}
 use Rattle.rules.specs.Free.{freed}
+use Rattle.rules.specs.Changes.{Change, Report}
 
--- the calls, with their numbers
+-- the calls
 pub data Call : Type 0 where
   -- base, named size
   opening : Addr → ℕ → Call
-  -- size, alignment
-  allocate : ℕ → ℕ → Call
-  -- address, size, alignment
-  free : Addr → ℕ → ℕ → Call
-  -- by
-  extend : ℕ → Call
-  list : Call
-  room : Call
+  change : Change → Call
+  report : Report → Call
+
+-- the changes and the reports, each by its name
+abbrev pub allocate : ℕ → ℕ → Call
+allocate s align = change (Change.allocate s align)
+
+abbrev pub free : Addr → ℕ → ℕ → Call
+free a s align = change (Change.free a s align)
+
+abbrev pub extend : ℕ → Call
+extend by = change (Change.extend by)
+
+abbrev pub list : Call
+list = report Report.list
+
+abbrev pub room : Call
+room = report Report.room
 
 -- what comes of a call
 pub data Outcome : Type 0 where
@@ -115,14 +126,25 @@ extended by h ks =
     (gathered (h .pending + by) h ks)
     (grown (downTo grain (h .pending + by)) ((h .pending + by) % grain) h ks)
 
+-- ---- reports
+
+-- what a report answers
+abbrev pub reported : Report → Heap → List Hole → Answer
+reported Report.list h ks = Listed (length ks) (size h - h .used)
+reported Report.room h ks = Room (largest ks) (length ks)
+
+-- and the holes that go into the lent rows
+abbrev pub listed : Report → List Hole → List Hole
+listed Report.list ks = ks
+listed Report.room ks = []
+
 -- ---- all of them
 
 -- an accepted call on a heap and its holes, lent len bytes
 unfoldable pub accepted : Call → ℕ → Heap → List Hole → Outcome
 accepted (opening base named) len h ks =
     done (Opening (raised grain base) (onlyHole base named .size)) (opened len base named) (onlyHole base named ∷ [])
-accepted (allocate s align) len h ks = taken (rounded s) align h ks (find (rounded s) align ks)
-accepted (free a s align) len h ks = given (rounded s) a h ks
-accepted (extend by) len h ks = extended by h ks
-accepted list len h ks = told (Listed (length ks) (size h - h .used)) ks
-accepted room len h ks = told (Room (largest ks) (length ks)) []
+accepted (change (Change.allocate s align)) len h ks = taken (rounded s) align h ks (find (rounded s) align ks)
+accepted (change (Change.free a s align)) len h ks = given (rounded s) a h ks
+accepted (change (Change.extend by)) len h ks = extended by h ks
+accepted (report r) len h ks = told (reported r h ks) (listed r ks)

@@ -58,14 +58,14 @@ nothing = write none 0 none
 unfoldable pub written : Writes → List ℕ → List ℕ
 written ws m = put (ws .two) (put (ws .one) m)
 
--- a head that is written lies in the arena
-abbrev pub Inside : List ℕ → Write → Type 0
-Inside m w = (w .at .0 ≡ none .0 → ⊥) → w .at .0 + minSize ≤ length m
+-- a head at a place, where that is not none, lies in the arena
+abbrev pub Inside : List ℕ → Place → Type 0
+Inside m p = (p .0 ≡ none .0 → ⊥) → p .0 + minSize ≤ length m
 
 -- writing these heads leaves that arena
 pub record Leaves (m : List ℕ) (ws : Writes) (m′ : List ℕ) : Type 0 where
-  pub one : Inside m (ws .one)
-  pub two : Inside m (ws .two)
+  pub one : Inside m (ws .one .at)
+  pub two : Inside m (ws .two .at)
   pub arena : written ws m ≡ m′
 
 -- what a refused call decides

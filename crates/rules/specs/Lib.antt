@@ -12,6 +12,7 @@ pub mod Sound
 -- what each call does: the rounded size and the hole used; the freed span; the calls; the readers
 pub mod Allocate
 pub mod Free
+pub mod Changes
 pub mod Calls
 pub mod Readers
 -- when the box says no; how tightly an answer is tied: numbers, heap, arena, rows

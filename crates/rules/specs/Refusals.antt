@@ -15,10 +15,11 @@ use Rattle.rules.specs.Fixed.{arenaLimit, addrLimit, minSize, grain, wid
 use Rattle.rules.specs.Tests.{any}
 use Rattle.rules.specs.Kinds.{addr, plus, same, before, multipleOf}
 use Rattle.rules.specs.Holes.{hole, end}
-use Rattle.rules.specs.Sound.{arenaEnd, sound}
+use Rattle.rules.specs.Sound.{arenaEnd, soundNumbers, soundHoles}
 use Rattle.rules.specs.Allocate.{rounded}
 use Rattle.rules.specs.Free.{overlaps, eight, eightToHole}
-use Rattle.rules.specs.Calls.{Call, opening, allocate, free, extend, list, room, onlyHole, Outcome, refused}
+use Rattle.rules.specs.Changes.{Change}
+use Rattle.rules.specs.Calls.{Call, opening, change, report, onlyHole, Outcome, refused}
 
 -- ---- the table: a refusal is given exactly if one of its conditions holds
 
@@ -44,9 +45,13 @@ refusal3 h = same (h .bottom) (addr 0) ∷ []
 abbrev pub refusal4 : ℕ → Heap → List Bool
 refusal4 len h = not (eqb len (h .len)) ∷ []
 
--- heap not sound
-abbrev pub refusal5 : Heap → List Hole → List Bool
-refusal5 h ks = not (sound h ks) ∷ []
+-- heap not sound: its numbers break a rule
+abbrev pub refusal5Numbers : Heap → List Bool
+refusal5Numbers h = not (soundNumbers h) ∷ []
+
+-- or its holes do
+abbrev pub refusal5Holes : Heap → List Hole → List Bool
+refusal5Holes h ks = not (soundHoles h ks) ∷ []
 
 -- a power of two is known by its count of ones
 abbrev pub onePower : ℕ → Bool
@@ -90,18 +95,24 @@ test r bs = record { gives = r; «exactly-if» = bs }
 -- 3, 4 and 5: all calls but open
 abbrev pub openedTests : ℕ → Heap → List Hole → List Test
 openedTests len h ks =
-    test Unopened (refusal3 h) ∷ test OtherLength (refusal4 len h) ∷ test NotSound (refusal5 h ks) ∷ []
+    test Unopened (refusal3 h)
+    ∷ test OtherLength (refusal4 len h)
+    ∷ test NotSound (refusal5Numbers h)
+    ∷ test NotSound (refusal5Holes h ks)
+    ∷ []
 
--- open tests 2, then 1; the rest test in rising order. 7 comes of the walk itself (`taken`)
+-- 6, 8 and 9: a change, behind those. 7 comes of the walk itself (`taken`)
+abbrev pub changeTests : Change → Heap → List Hole → List Test
+changeTests (Change.allocate s align) h ks = test BadLayout (refusal6 s align) ∷ []
+changeTests (Change.free a s align) h ks =
+    test BadLayout (refusal6 s align) ∷ test BadSpan (refusal8 h ks (hole a (rounded s)) align) ∷ []
+changeTests (Change.extend by) h ks = test PastArena (refusal9 by h) ∷ []
+
+-- open tests 2, then 1; the rest test in rising order
 unfoldable pub tests : Call → ℕ → Heap → List Hole → List Test
 tests (opening base named) len h ks = test Opened (refusal2 h) ∷ test BadOpening (refusal1 len base named) ∷ []
-tests (allocate s align) len h ks = openedTests len h ks ++ (test BadLayout (refusal6 s align) ∷ [])
-tests (free a s align) len h ks =
-    openedTests len h ks
-    ++ (test BadLayout (refusal6 s align) ∷ test BadSpan (refusal8 h ks (hole a (rounded s)) align) ∷ [])
-tests (extend by) len h ks = openedTests len h ks ++ (test PastArena (refusal9 by h) ∷ [])
-tests list len h ks = openedTests len h ks
-tests room len h ks = openedTests len h ks
+tests (change c) len h ks = openedTests len h ks ++ changeTests c h ks
+tests (report r) len h ks = openedTests len h ks
 
 -- the first test that holds refuses; else the outcome
 unfoldable pub unless : List Test → Outcome → Outcome

@@ -9,12 +9,14 @@ use Rattle.rules.specs.declared.Addr.{Addr}
 use Rattle.rules.specs.declared.Hole.{Hole}
 use Rattle.rules.specs.declared.Heap.{Heap}
 use Rattle.rules.specs.declared.Answer.{Answer}
-use Rattle.rules.specs.declared.Answer.the-variants.{Opening, Allocated, Freed, Extended, Listed, Room, Refused}
+use Rattle.rules.specs.declared.Answer.the-variants.{Refused}
 use Rattle.rules.specs.Tests.{all}
-use Rattle.rules.specs.Kinds.{same, number}
+use Rattle.rules.specs.Kinds.{addr, same, number}
 use Rattle.rules.specs.Sound.{unopened, holes}
 use Rattle.rules.specs.Readers.{bottomOf, topOf, sizeOf, usedOf, freeOf}
-use Rattle.rules.specs.Calls.{Call, opening, allocate, free, extend, list, room, Outcome, refused, told, done}
+use Rattle.rules.specs.Changes.{Change}
+use Rattle.rules.specs.Calls.{Call, opening, change, report, Outcome, refused, told, done}
+use Rattle.rules.specs.Answers.{answerNumbers}
 use Rattle.rules.specs.Outcome.{decided, after, Rows, leavesRows, rowsAfter}
 
 -- ---- what is asked, and what is told
@@ -22,11 +24,10 @@ use Rattle.rules.specs.Outcome.{decided, after, Rows, leavesRows, rowsAf
 -- the numbers of a call are below 2^64
 abbrev pub Fits : Call → Type 0
 Fits (opening base named) = (base .0 < 2 ^ 64) × (named < 2 ^ 64)
-Fits (allocate s align) = (s < 2 ^ 64) × (align < 2 ^ 64)
-Fits (free x s align) = (x .0 < 2 ^ 64) × (s < 2 ^ 64) × (align < 2 ^ 64)
-Fits (extend by) = by < 2 ^ 64
-Fits list = Unit {0}
-Fits room = Unit {0}
+Fits (change (Change.allocate s align)) = (s < 2 ^ 64) × (align < 2 ^ 64)
+Fits (change (Change.free x s align)) = (x .0 < 2 ^ 64) × (s < 2 ^ 64) × (align < 2 ^ 64)
+Fits (change (Change.extend by)) = by < 2 ^ 64
+Fits (report r) = Unit {0}
 
 pub data Reader : Type 0 where
   bottom top size used freeBytes : Reader
@@ -110,20 +111,13 @@ pub record Box : Type 0 where
 abbrev pub start : Box
 start = record { heap = unopened; holes = []; held = [] }
 
--- the blocks held after an accepted call
+-- the blocks held after an accepted call; the first value of allocate's answer is the granted address
 unfoldable pub heldAfter : Call → Answer → List Block → List Block
 heldAfter (opening base named) a bs = []
-heldAfter (allocate s align) (Allocated x count) bs = block x s align ∷ bs
-heldAfter (allocate s align) (Opening x y) bs = bs
-heldAfter (allocate s align) (Freed x y) bs = bs
-heldAfter (allocate s align) (Extended x y) bs = bs
-heldAfter (allocate s align) (Listed x y) bs = bs
-heldAfter (allocate s align) (Room x y) bs = bs
-heldAfter (allocate s align) (Refused r) bs = bs
-heldAfter (free x s align) a bs = without (block x s align) bs
-heldAfter (extend by) a bs = bs
-heldAfter list a bs = bs
-heldAfter room a bs = bs
+heldAfter (change (Change.allocate s align)) a bs = block (addr (answerNumbers a .one)) s align ∷ bs
+heldAfter (change (Change.free x s align)) a bs = without (block x s align) bs
+heldAfter (change (Change.extend by)) a bs = bs
+heldAfter (report r) a bs = bs
 
 -- what a call comes to in a box, by its numbers and holes alone
 abbrev pub comesTo : Call → ℕ → Box → Outcome
@@ -158,17 +152,16 @@ ends (a ∷ asks) b = ends asks (nextBox a b)
 -- ---- the premise on frees
 
 -- an accepted free names a block then held, with its own size and alignment
-abbrev pub HonestCall : Call → ℕ → Box → Type 0
-HonestCall (opening base named) n b = Unit {0}
-HonestCall (allocate s align) n b = Unit {0}
-HonestCall (free x s align) n b =
-    (a : Answer) (h : Heap) (ks : List Hole) → comesTo (free x s align) n b ≡ done a h ks → List·Memᴰ (block x s align) (b .held)
-HonestCall (extend by) n b = Unit {0}
-HonestCall list n b = Unit {0}
-HonestCall room n b = Unit {0}
+abbrev pub HonestCall : Call → Outcome → Box → Type 0
+HonestCall (opening base named) o b = Unit {0}
+HonestCall (change (Change.allocate s align)) o b = Unit {0}
+HonestCall (change (Change.free x s align)) o b =
+    (a : Answer) (h : Heap) (ks : List Hole) → o ≡ done a h ks → List·Memᴰ (block x s align) (b .held)
+HonestCall (change (Change.extend by)) o b = Unit {0}
+HonestCall (report r) o b = Unit {0}
 
 abbrev pub HonestAsk : Ask → Box → Type 0
-HonestAsk (calls c r n) b = HonestCall c n b
+HonestAsk (calls c r n) b = HonestCall c (comesTo c n b) b
 HonestAsk (reads x) b = Unit {0}
 
 abbrev pub Honest : List Ask → Box → Type 0

@@ -19,7 +19,8 @@ use Rattle.rules.specs.Round.{Below}
 use Rattle.rules.specs.Kinds.{addr, place}
 use Rattle.rules.specs.Holes.{hole}
 use Rattle.rules.specs.Sound.{unopened, holes}
-use Rattle.rules.specs.Calls.{Call, opening, allocate, free, extend, list, room, Outcome, refused, told, done}
+use Rattle.rules.specs.Changes.{Change}
+use Rattle.rules.specs.Calls.{Call, opening, change, report, allocate, free, extend, list, room, Outcome, refused, told, done}
 use Rattle.rules.specs.Answers.{numbers, answerNumbers}
 use Rattle.rules.specs.Outcome.{Rows, after, Is, rowsAfter}
 use Rattle.rules.specs.InWords.{Valid, endOf, SoundNumbers, Sound, Hold, Rounds, Lies, RoomAt, Within, Vacant, Left, NoStart, NoLayout, NoSpan}
@@ -75,23 +76,23 @@ openedRows b h m =
     ∷ row NotSound (Sound h (b .holes h m) → ⊥)
     ∷ []
 
+-- a change, behind those
+abbrev pub changeRows : Behaviour → Change → Heap → List ℕ → List Row
+changeRows b (Change.allocate s align) h m =
+    row BadLayout (NoLayout s align)
+    ∷ row (NoRoom (length (b .holes h m))) ((r : ℕ) → Rounds s r → (x : ℕ) → RoomAt r align (b .holes h m) x → ⊥)
+    ∷ []
+changeRows b (Change.free x s align) h m =
+    row BadLayout (NoLayout s align)
+    ∷ row BadSpan ((r : ℕ) × Rounds s r × NoSpan h (b .holes h m) (x .0) r align)
+    ∷ []
+changeRows b (Change.extend by) h m = row PastArena (h .base .0 + h .len < h .top .0 + h .pending + by) ∷ []
+
 abbrev pub refusalsOf : Behaviour → Call → Heap → List ℕ → List Row
 refusalsOf b (opening base named) h m =
     row Opened (h .bottom .0 ≡ 0 → ⊥) ∷ row BadOpening (NoStart (length m) (base .0) named) ∷ []
-refusalsOf b (allocate s align) h m =
-    openedRows b h m
-    ++ (row BadLayout (NoLayout s align)
-    ∷ row (NoRoom (length (b .holes h m))) ((r : ℕ) → Rounds s r → (x : ℕ) → RoomAt r align (b .holes h m) x → ⊥)
-    ∷ [])
-refusalsOf b (free x s align) h m =
-    openedRows b h m
-    ++ (row BadLayout (NoLayout s align)
-    ∷ row BadSpan ((r : ℕ) × Rounds s r × NoSpan h (b .holes h m) (x .0) r align)
-    ∷ [])
-refusalsOf b (extend by) h m =
-    openedRows b h m ++ (row PastArena (h .base .0 + h .len < h .top .0 + h .pending + by) ∷ [])
-refusalsOf b list h m = openedRows b h m
-refusalsOf b room h m = openedRows b h m
+refusalsOf b (change c) h m = openedRows b h m ++ changeRows b c h m
+refusalsOf b (report r) h m = openedRows b h m
 
 abbrev pub RefusalsExactly : Behaviour → Type 0
 RefusalsExactly b = (c : Call) (h : Heap) (m : List ℕ) → Fits c → Decides (refusalsOf b c h m) (b .outcome c h m)

@@ -1,15 +1,16 @@
 -- What holds of the program's memory from line to line. Definitions only.
-use Prim.Native.Nat.{ℕ, _≤_}
+use Prim.Native.Nat.{ℕ, _+_, _*_, _≤_}
 use mathlib.Core.Path.{_≡_}
-use Rattle.frame.specs.Wire.{longest}
+use Rattle.lines.specs.Frames.{frameDigits, mostNumbers}
+use Rattle.lines.specs.Wire.{longest}
 use Rattle.wire.specs.declared.Talk.{Talk}
 
--- the bytes kept of a line; those for answers that wait, the longest twice
+-- the bytes kept of a line, one more than the longest frame has; those for answers that wait, the longest twice
 abbrev pub lineRoom : ℕ
-lineRoom = 51
+lineRoom = frameDigits mostNumbers + 1
 
 abbrev pub answersRoom : ℕ
-answersRoom = 143430
+answersRoom = 2 * longest
 
 -- behind the answers that wait there is room for the longest
 abbrev pub Bounded : Talk → Type 0

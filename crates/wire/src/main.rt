@@ -1,18 +1,19 @@
 // The wire program: calls on standard input, a frame a line, answers on standard output. It holds a
-// zeroed arena of 65,536 bytes. What a line means and what is printed is `frame::answer_line`'s
+// zeroed arena of 65,536 bytes. What a line means and what is printed is `lines::answer_line`'s
 // promise. Here bytes are only moved, in memory that does not grow with the input, and what is promised
 // is that they stay in it. A part of a slice is written `[0..n]`, since the borrow checker then knows its
 // length by itself.
-use frame::ARENA;
-use frame::LONGEST;
-use frame::answer_line;
 use libc::STDIN_FILENO;
 use libc::STDOUT_FILENO;
+use lines::ARENA;
+use lines::FRAME;
+use lines::LONGEST;
+use lines::answer_line;
 use rules::Heap;
 ghost use mathlib.Core.Path.{_≡_};
 ghost use Prim.Native.Nat.{_≤_};
 ghost use lib.ListN.{length};
-ghost use Rattle.frame.specs.Wire.{longest};
+ghost use Rattle.lines.specs.Wire.{longest};
 ghost use Rattle.wire.specs.Bounds.{lineRoom, answersRoom, Bounded, Settled};
 
 const LF: u8 = 10;
@@ -22,10 +23,10 @@ const INPUT: usize = 65_536;
 
 // The bytes kept of a line: one more than the longest frame has, so that what is kept of a longer line
 // is no frame either.
-const KEPT: usize = 51;
+const KEPT: usize = FRAME + 1;
 
 // The bytes for answers that wait: the longest twice.
-const WAITING: usize = 143_430;
+const WAITING: usize = 2 * LONGEST;
 
 // The box and the talk with it.
 struct Talk {
@@ -171,7 +172,7 @@ fn main() {
     let mut reply = [0u8; LONGEST];
     let mut waiting = [0u8; WAITING];
     let mut t = Talk {
-        heap: opening::empty(),
+        heap: open::empty(),
         kept: 0,
         waits: 0,
         more: true,

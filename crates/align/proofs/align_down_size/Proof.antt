@@ -1,19 +1,19 @@
--- `align::align_down_size` meets its contract: the mask below a power of two takes the remainder away. Assumes nothing.
-use native.Mathlib.Omega.{arith}
-use lib.Bits.{and-le-l}
+-- `align::align_down_size` meets its contract: what lies above the multiple is taken away. Assumes nothing.
+use borrow.Author.Needs.{needs}
+use native.Mathlib.Nat.{mod-le}
 use Rattle.rules.proofs.Multiples.{down-by}
-use Rattle.rules.proofs.Powers.{power-pos, mask}
+use Rattle.rules.proofs.Powers.{power-pos}
 use Rattle.align.proofs.align_down_size.Statement.{statement}
 use Rattle.align.proofs.align_down_size.Tie as tie
 
-sub-result : tie.Need-sub-result
-sub-result c = omega (arith, power-pos (c .pre))
+offset-requires : tie.Need-offset-requires
+offset-requires c κs = search needs
 
-sub-result-2 : tie.Need-sub-result-2
-sub-result-2 c = and-le-l _ _
+sub-result : tie.Need-sub-result
+sub-result c = rw (c .offset .ensures) (mod-le (c .before .args .size) (c .before .args .align))
 
 returns : tie.Need-returns
-returns c = down-by (c .args .size) (power-pos (c .pre)) (mask (c .args .size) (c .pre))
+returns c = down-by (c .before .args .size) (power-pos (c .before .pre)) (c .offset .ensures)
 
 pub align-down-size-spec : {M : Type 1} → statement M
-align-down-size-spec = tie.close (tie.spec sub-result sub-result-2 returns)
+align-down-size-spec = tie.close (tie.spec offset-requires sub-result returns)

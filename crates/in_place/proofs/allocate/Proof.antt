@@ -1,4 +1,4 @@
--- `in_place::allocate` meets its contract: `allocating::allocate` on a copy of the lent heap, and what it hands back stored there (`Lent`'s walk). Assumes nothing.
+-- `in_place::allocate` meets its contract: `allocate::allocate` on a copy of the lent heap, and what it hands back stored there (`Lent`'s walk). Assumes nothing.
 use mathlib.Core.Path.{_≡_, refl}
 use Prim.Native.Nat.{ℕ, _-_, _*_, _<_, _^_}
 use mathlib.Core.List.{[], _∷_, List}
@@ -36,10 +36,10 @@ use Rattle.rules.specs.Calls as Calls
 use Rattle.rules.specs.declared.Heap.{Heap as Numbers}
 use Rattle.rules.specs.declared.Done.{Done}
 use Rattle.rules.proofs.Heap as T
-use Rattle.allocating.proofs.allocate as callee
-use Rattle.allocating.proofs.allocate.Symbol as callee-def
-use Rattle.allocating.proofs.allocate.Symbol.{name as #callee}
-use Rattle.allocating.proofs.allocate.Met as callee-thm
+use Rattle.allocate.proofs.allocate as callee
+use Rattle.allocate.proofs.allocate.Symbol as callee-def
+use Rattle.allocate.proofs.allocate.Symbol.{name as #callee}
+use Rattle.allocate.proofs.allocate.Met as callee-thm
 use Rattle.in_place.proofs.allocate.Key.{name as #this}
 use Rattle.in_place.proofs.allocate as this
 use Rattle.in_place.proofs.allocate.Statement as stated
@@ -139,4 +139,4 @@ allocate-spec 𝓤 H 𝓜 𝓖 𝓡 =
     entered 𝓤 H (tripleOf 𝓤 H (𝓖 .A) this.signature (this.spec 𝓤 H (𝓖 .A) (𝓜 .mem) (𝓡 .run)))
     (tables 𝓤 H 𝓜 𝓡 code.env .C) (tables 𝓤 H 𝓜 𝓡 code.env .Λ) #this code.function (code.unfolded 𝓤 H 𝓜 𝓡)
     (meets 𝓤 H (𝓖 .A) (givenOf 𝓤 H 𝓜 𝓖) (𝓜 .mem) (𝓡 .run) (tablesOf 𝓤 H 𝓜 (tables 𝓤 H 𝓜 𝓡 code.env))
-    (cited 𝓤 H (Callee 𝓤 H (𝓖 .A) (𝓜 .mem) (𝓡 .run)) 𝓜 𝓡 code.env #callee callee-def.routine code.calls-allocating·allocate (callee-thm.met 𝓤 H 𝓜 𝓖 𝓡)))
+    (cited 𝓤 H (Callee 𝓤 H (𝓖 .A) (𝓜 .mem) (𝓡 .run)) 𝓜 𝓡 code.env #callee callee-def.routine code.calls-allocate·allocate (callee-thm.met 𝓤 H 𝓜 𝓖 𝓡)))

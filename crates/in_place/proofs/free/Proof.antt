@@ -1,4 +1,4 @@
--- `in_place::free` meets its contract: `freeing::free` on a copy of the lent heap, and what it hands back stored there (`Lent`'s walk). Assumes nothing.
+-- `in_place::free` meets its contract: `free::free` on a copy of the lent heap, and what it hands back stored there (`Lent`'s walk). Assumes nothing.
 use mathlib.Core.Path.{_≡_, refl}
 use Prim.Native.Nat.{ℕ, _-_, _*_, _<_, _^_}
 use mathlib.Core.List.{[], _∷_, List}
@@ -40,10 +40,10 @@ use Rattle.rules.specs.declared.Addr.{Addr}
 use Rattle.rules.proofs.Heap as T
 use Rattle.rules.proofs.Addr as P
 use Rattle.rules.proofs.Addr.Laws as P′
-use Rattle.freeing.proofs.free as callee
-use Rattle.freeing.proofs.free.Symbol as callee-def
-use Rattle.freeing.proofs.free.Symbol.{name as #callee}
-use Rattle.freeing.proofs.free.Met as callee-thm
+use Rattle.free.proofs.free as callee
+use Rattle.free.proofs.free.Symbol as callee-def
+use Rattle.free.proofs.free.Symbol.{name as #callee}
+use Rattle.free.proofs.free.Met as callee-thm
 use Rattle.in_place.proofs.free.Key.{name as #this}
 use Rattle.in_place.proofs.free as this
 use Rattle.in_place.proofs.free.Statement as stated
@@ -143,4 +143,4 @@ free-spec 𝓤 H 𝓜 𝓖 𝓡 =
     entered 𝓤 H (tripleOf 𝓤 H (𝓖 .A) this.signature (this.spec 𝓤 H (𝓖 .A) (𝓜 .mem) (𝓡 .run)))
     (tables 𝓤 H 𝓜 𝓡 code.env .C) (tables 𝓤 H 𝓜 𝓡 code.env .Λ) #this code.function (code.unfolded 𝓤 H 𝓜 𝓡)
     (meets 𝓤 H (𝓖 .A) (givenOf 𝓤 H 𝓜 𝓖) (𝓜 .mem) (𝓡 .run) (tablesOf 𝓤 H 𝓜 (tables 𝓤 H 𝓜 𝓡 code.env))
-    (cited 𝓤 H (Callee 𝓤 H (𝓖 .A) (𝓜 .mem) (𝓡 .run)) 𝓜 𝓡 code.env #callee callee-def.routine code.calls-freeing·free (callee-thm.met 𝓤 H 𝓜 𝓖 𝓡)))
+    (cited 𝓤 H (Callee 𝓤 H (𝓖 .A) (𝓜 .mem) (𝓡 .run)) 𝓜 𝓡 code.env #callee callee-def.routine code.calls-free·free (callee-thm.met 𝓤 H 𝓜 𝓖 𝓡)))

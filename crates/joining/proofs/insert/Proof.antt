@@ -1,124 +1,92 @@
--- `joining::insert` meets its contract: the hole before the span touches it or does not, and either way the heads that are
--- written stand for the new list. Assumes nothing.
+-- `joining::insert` meets its contract: the hole before the span ends there or does not, and either way the heads to be written stand for
+-- the new list. Assumes nothing.
+use mathlib.Core.Path.{_≡_, sym, _∙_}
 use native.Mathlib.Omega.{arith}
 use borrow.Author.Needs.{needs}
-use Rattle.joining.proofs.Inserted.{may-merge, bounds-at, insert-apart, insert-joined}
+use borrow.Author.Tests.{not-true, not-false}
+use Rattle.rules.specs.Kinds.{none}
+use Rattle.joining.proofs.Between.{Bounds}
+use Rattle.joining.proofs.Inserted.{may-merge, may-end, bounds-at, ends-there, insert-apart, insert-joined}
 use Rattle.joining.proofs.insert.Statement.{statement}
 use Rattle.joining.proofs.insert.Tie as tie
+
+-- ---- what is known once the head is merged, and once the hole before was looked at
+
+abbrev start : tie.After-try-merge-next → tie.Start
+start c = c .before .before .before .before .before .before
+
+bounds : (c : tie.After-try-merge-next)
+    → Bounds (start c .args .h) (start c .args .arena .now) (start c .args .span) (start c .args .cursor .prev) (c .try-merge-next .result)
+bounds c = bounds-at (start c .pre .0) (start c .pre .1) (c .try-merge-next .ensures)
+
+abbrev merged : tie.After-ends-at → tie.After-try-merge-next
+merged c = c .before .before .before
+
+-- a hole before the span that ends there is one
+there : (c : tie.Else1) → start (merged (c .before)) .args .cursor .prev .0 ≡ none .0 → ⊥
+there c =
+    let e = c .before in
+    let t = merged e in
+    ends-there (start t .pre .0) (start t .pre .1) (t .try-merge-next .ensures) (e .before .place-of .ensures)
+    (sym (e .ends-at .ensures) ∙ not-false _ (c .if1 .left))
+
+-- ---- the needs
 
 try-merge-next-requires : tie.Need-try-merge-next-requires
 try-merge-next-requires c κs =
     let s = c .before .before .before .before .before in
     may-merge (s .pre .0) (s .pre .1)
 
-sub-if2 : tie.Need-sub-if2
-sub-if2 c =
-    let r = c .before .before in
-    let s = r .before .before .before .before .before .before in
-    omega (arith, bounds-at (s .pre .0) (s .pre .1) (r .try-merge-next .ensures))
+place-of-requires : tie.Need-place-of-requires
+place-of-requires c κs = bounds (c .before) .low
 
-insert-after-requires : tie.Need-insert-after-requires
-insert-after-requires c κs =
-    let r = c .before .before .before .before .before in
-    let s = r .before .before .before .before .before .before in
-    let b = bounds-at (s .pre .0) (s .pre .1) (r .try-merge-next .ensures) in
-    (s .pre .0 .ready .bytes, b .inside, b .before)
+ends-at-requires : tie.Need-ends-at-requires
+ends-at-requires c κs = let s = start (c .before .before) in may-end (s .pre .0) (s .pre .1)
 
-same-length : tie.Need-same-length
-same-length c = search needs
+link-requires : tie.Need-link-requires
+link-requires c κs = bounds (merged (c .before)) .before
 
 returns : tie.Need-returns
 returns c =
-    let i = c .before .before in
-    let r = i .before .before .before .before .before .before in
-    let s = r .before .before .before .before .before .before in
-    insert-apart (s .pre .0) (s .pre .1) (r .try-merge-next .ensures)
-    (λ n. absurd (n (i .before .before .if1 .taken)))
-    (i .insert-after .ensures)
+    let e = c .before .before in
+    let t = merged e in
+    let s = start t in
+    rw (c .link .ensures)
+    (insert-apart (s .pre .0) (s .pre .1) (t .try-merge-next .ensures) (e .before .place-of .ensures)
+    (sym (e .ends-at .ensures) ∙ not-true _ (c .before .if1 .taken)))
 
 read-head-requires : tie.Need-read-head-requires
-read-head-requires c κs =
-    let r = c .before .before .before .before .before in
-    let s = r .before .before .before .before .before .before in
-    let b = bounds-at (s .pre .0) (s .pre .1) (r .try-merge-next .ensures) in
-    b .before (c .before .if1 .left)
+read-head-requires c κs = bounds (merged (c .before)) .before (there c)
 
-add-if2 : tie.Need-add-if2
-add-if2 c =
-    let d = c .before .before in
-    let r = d .before .before .before .before .before .before in
-    let s = r .before .before .before .before .before .before in
-    let b = bounds-at (s .pre .0) (s .pre .1) (r .try-merge-next .ensures) in
-    let fits = b .reach (d .before .before .if1 .left) in
-    rw (d .read-head .ensures) (omega arith)
+add-t17 : tie.Need-add-t17
+add-t17 c =
+    let r = c .before .before in
+    let fits = bounds (merged (r .before .before)) .sum (there (r .before)) in
+    rw (r .read-head .ensures) (omega arith)
 
-insert-after-requires-2 : tie.Need-insert-after-requires-2
-insert-after-requires-2 c κs =
-    let r = c .before .before .before .before .before .before .before .before .before .before .before in
-    let s = r .before .before .before .before .before .before in
-    let b = bounds-at (s .pre .0) (s .pre .1) (r .try-merge-next .ensures) in
-    (s .pre .0 .ready .bytes, b .inside, b .before)
-
-same-length-2 : tie.Need-same-length-2
-same-length-2 c = search needs
+nothing-requires : tie.Need-nothing-requires
+nothing-requires c κs = search needs
 
 returns-2 : tie.Need-returns-2
 returns-2 c =
-    let i = c .before .before in
-    let d = i .before .before .before .before .before .before in
-    let r = d .before .before .before .before .before .before in
-    let s = r .before .before .before .before .before .before in
-    insert-apart (s .pre .0) (s .pre .1) (r .try-merge-next .ensures)
-    (λ n. rw (d .read-head .ensures) at (i .before .before .if2 .taken))
-    (i .insert-after2 .ensures)
-
-add-t14 : tie.Need-add-t14
-add-t14 c =
-    let d = c .before .before .before .before .before .before .before .before in
-    let r = d .before .before .before .before .before .before in
-    let s = r .before .before .before .before .before .before in
-    let b = bounds-at (s .pre .0) (s .pre .1) (r .try-merge-next .ensures) in
-    let fits = b .sum (d .before .before .if1 .left) in
-    rw (d .read-head .ensures) (omega arith)
-
-put-head-requires : tie.Need-put-head-requires
-put-head-requires c κs =
-    let d = c .before .before .before .before .before .before .before .before in
-    let r = d .before .before .before .before .before .before in
-    let s = r .before .before .before .before .before .before in
-    let b = bounds-at (s .pre .0) (s .pre .1) (r .try-merge-next .ensures) in
-    b .before (d .before .before .if1 .left)
-
-same-length-3 : tie.Need-same-length-3
-same-length-3 c = search needs
-
-returns-3 : tie.Need-returns-3
-returns-3 c =
-    let w = c .before .before in
-    let q = w .before .before .before .before .before in
-    let d = q .before .before .before .before in
-    let r = d .before .before .before .before .before .before in
-    let s = r .before .before .before .before .before .before in
-    insert-joined (s .pre .0) (s .pre .1) (r .try-merge-next .ensures) (d .read-head .ensures)
-    (d .before .before .if1 .left)
-    (q .if2 .left)
-    (w .put-head .ensures)
+    let r = c .before .before .before in
+    let e = r .before .before in
+    let t = merged e in
+    let s = start t in
+    rw (c .nothing .ensures)
+    (insert-joined (s .pre .0) (s .pre .1) (t .try-merge-next .ensures) (e .before .place-of .ensures)
+    (sym (e .ends-at .ensures) ∙ not-false _ (r .before .if1 .left)) (r .read-head .ensures))
 
 pub insert-spec : {M : Type 1} → statement M
 insert-spec =
     tie.close
     (tie.spec
     try-merge-next-requires
-    sub-if2
-    insert-after-requires
-    same-length
+    place-of-requires
+    ends-at-requires
+    link-requires
     returns
     read-head-requires
-    add-if2
-    insert-after-requires-2
-    same-length-2
-    returns-2
-    add-t14
-    put-head-requires
-    same-length-3
-    returns-3)
+    add-t17
+    nothing-requires
+    returns-2)

@@ -9,6 +9,9 @@ use Rattle.numbers.proofs.checks.sound_top.Tie as tie
 returns : tie.Need-returns
 returns c = broken _ (λ f. omega arith)
 
+fair-size-requires : tie.Need-fair-size-requires
+fair-size-requires c κs = search needs
+
 returns-2 : tie.Need-returns-2
 returns-2 c = broken _ (λ f. omega arith)
 
@@ -26,9 +29,9 @@ returns-5 c = broken _ (λ f. omega arith)
 
 returns-6 : tie.Need-returns-6
 returns-6 c =
-    let n = above-near (c .before .before .before .before .before .before .before .before .pre .bottom) in
+    let n = above-near (c .before .before .before .before .before .before .before .before .before .before .pre .bottom) in
     decides _ (λ e. omega (arith, leb-true)) (λ f. omega (arith, le-leb))
 
 pub sound-top-spec : {M : Type 1} → statement M
 sound-top-spec =
-    tie.close (tie.spec returns returns-2 returns-3 returns-4 add-end returns-5 returns-6)
+    tie.close (tie.spec returns fair-size-requires returns-2 returns-3 returns-4 add-end returns-5 returns-6)

@@ -1,0 +1,50 @@
+// The first suiting hole, and the refusals where none is found.
+use crate::split::split_current;
+use cursor::walk;
+use fitting::Search;
+use fitting::first_fit;
+use hole::refuse;
+use hole_list::adds_up;
+use hole_list::sums_up;
+use rules::Addr;
+use rules::Decided;
+use rules::Heap;
+use rules::MIN_SIZE;
+use rules::Refusal;
+ghost use mathlib.Core.Path.{_≡_};
+ghost use Rattle.rules.specs.Inner.{Fair, Decides, refusing};
+ghost use Rattle.cursor.specs.Walk.{Asked};
+ghost use Rattle.hole_list.specs.Settled.{Ready};
+ghost use Rattle.allocate.specs.Granted.{noFit, grantedIfSound};
+
+// No hole suits, or a head breaks a rule.
+fn no_fit(h: Heap, found: Search) -> Decided
+    requires { ⌜ Fair h ⌝ }
+    ensures { λ d. ⌜ d ≡ refusing h (noFit h found) ⌝ }
+{
+    let Search::Full { count, total } = found else {
+        return refuse(h, Refusal::NotSound);
+    };
+    if sums_up(h, total) {
+        return refuse(h, Refusal::NoRoom { holes: count });
+    }
+    refuse(h, Refusal::NotSound)
+}
+
+// Grants the first hole that suits a rounded size and an alignment, or refuses with 5 or 7.
+pub fn allocate_first_fit(h: Heap, arena: &[u8], want: u64, align: u64) -> Decided
+    requires { ⌜ Ready h (now arena) × Asked want align ⌝ }
+    ensures { λ d. ⌜ Decides (grantedIfSound want align h (now (arena .entry))) (now (arena .entry)) d ⌝ }
+{
+    let found = first_fit(h, arena, want, align);
+    let Search::At(fit) = found else {
+        return no_fit(h, found);
+    };
+    let hole = fit.hole;
+    let next = fit.next;
+    let floor = Addr(hole.addr.0 + hole.size + MIN_SIZE);
+    if adds_up(h, walk(h, arena, next, floor, fit.total)) {
+        return split_current(h, arena, fit, want, align);
+    }
+    refuse(h, Refusal::NotSound)
+}

@@ -1,0 +1,108 @@
+// The hole that an allocation found, used and split.
+use fitting::Fit;
+use fitting::Search;
+use fitting::candidate;
+use hole::nothing;
+use hole::place_of;
+use joining::Relinked;
+use joining::link;
+use rules::Addr;
+use rules::Answer;
+use rules::Decided;
+use rules::Head;
+use rules::Heap;
+use rules::NONE;
+use rules::Place;
+use rules::Write;
+use rules::Writes;
+ghost use mathlib.Core.Path.{_≡_};
+ghost use Prim.Native.Nat.{_≤_};
+ghost use Rattle.rules.specs.Kinds.{none};
+ghost use Rattle.rules.specs.Sound.{holes};
+ghost use Rattle.rules.specs.Inner.{Inside, Decides};
+ghost use Rattle.cursor.specs.Walk.{Asked, startOf};
+ghost use Rattle.fitting.specs.FirstFit.{searchOf};
+ghost use Rattle.hole_list.specs.Settled.{Settled};
+ghost use Rattle.allocate.specs.Granted.{remainder, leadsTo, splitTo, granted};
+
+// What remains between two addresses becomes a hole that leads to `next`; between equal ones nothing
+// remains.
+fn remains(base: Addr, lo: Addr, hi: Addr, next: Place) -> Write
+    requires { ⌜ (base .0 ≤ lo .0) × (lo .0 ≤ hi .0) ⌝ }
+    ensures { λ r. ⌜ r ≡ remainder base lo hi next ⌝ }
+{
+    if lo.0 == hi.0 {
+        return nothing();
+    }
+    Write {
+        at: place_of(base, lo),
+        head: Head {
+            size: hi.0 - lo.0,
+            next,
+        },
+    }
+}
+
+// The place of what remains; where nothing does, that of the next hole.
+fn leads(w: Write, next: Place) -> Place
+    ensures { λ r. ⌜ r ≡ leadsTo w next ⌝ }
+{
+    let at = w.at;
+    if at.0 == NONE {
+        return next;
+    }
+    at
+}
+
+// What remains in front of a block stands where the hole stood; where nothing does, the hole before leads
+// to what comes behind the block.
+fn relink(first: Place, arena: &[u8], prev: Place, front: Write, rear: Write, to: Place) -> Relinked
+    requires { ⌜ Inside (now arena) prev ⌝ }
+    ensures { λ r. ⌜ r ≡ splitTo first (now (arena .entry)) prev front rear to ⌝ }
+{
+    let at = front.at;
+    if at.0 == NONE {
+        return link(first, arena, prev, to, rear);
+    }
+    Relinked {
+        first,
+        heads: Writes {
+            one: rear,
+            two: front,
+        },
+    }
+}
+
+// Uses the hole that was found: what remains of it behind the block and in front of it become holes.
+pub fn split_current(h: Heap, arena: &[u8], fit: Fit, want: u64, align: u64) -> Decided
+    requires { ⌜ Settled h (now arena) × Asked want align × (searchOf h want align (startOf h) none 0 0 (holes h (now arena)) ≡ Search.At fit) ⌝ }
+    ensures { λ d. ⌜ Decides (granted want align h (now (arena .entry))) (now (arena .entry)) d ⌝ }
+{
+    let base = h.base;
+    let hole = fit.hole;
+    let addr = hole.addr;
+    let start = candidate(addr, align);
+    let end = Addr(addr.0 + hole.size);
+    let next = fit.next;
+    let rear = remains(base, Addr(start.0 + want), end, next);
+    let behind = leads(rear, next);
+    let front = remains(base, addr, start, behind);
+    let cursor = fit.cursor;
+    let prev = cursor.prev;
+    let first = h.first;
+    let list = relink(first, arena, prev, front, rear, behind);
+    let first = list.first;
+    let heads = list.heads;
+    Decided {
+        heap: Heap {
+            first,
+            used: h.used + want,
+            ..h
+        },
+        answer: Answer::Allocated {
+            addr: start,
+            count: fit.count,
+        },
+        heads,
+    }
+}

@@ -1,2 +1,0 @@
--- Lines on the wire, as definitions.
-pub mod Wire

@@ -1,0 +1,44 @@
+// The call free, on a heap by value and a lent arena: its tests, its decision, and the decision written.
+mod deallocation;
+mod span;
+
+use deallocation::deallocate;
+use hole::arena_len;
+use hole::refuse;
+use hole::write;
+use hole_list::refuse_if_sound;
+use layout::align_layout;
+use numbers::Checked;
+use numbers::check;
+use rules::Addr;
+use rules::Decided;
+use rules::Done;
+use rules::Heap;
+use rules::Layout;
+use rules::Refusal;
+ghost use Rattle.rules.specs.Calls as Calls;
+ghost use Rattle.rules.specs.Outcome.{Is, after};
+ghost use Rattle.rules.specs.Inner.{Decides};
+
+// What a block given back comes to: the tests 3, 4, 5, 6, 8, and the span that becomes free.
+pub fn decide(h: Heap, arena: &[u8], addr: Addr, size: u64, align: u64) -> Decided
+    ensures { λ d. ⌜ Decides (after (Calls.free addr size align) h (now (arena .entry))) (now (arena .entry)) d ⌝ }
+{
+    let checked = check(h, arena_len(arena));
+    if let Checked::No(r) = checked {
+        return refuse(h, r);
+    }
+    let layout = align_layout(size, align);
+    let Layout::Rounded(want) = layout else {
+        return refuse_if_sound(h, arena, Refusal::BadLayout);
+    };
+    deallocate(h, arena, addr, want, align)
+}
+
+// Takes a block back, named by its address, size and alignment. It tests 3, 4, 5, 6, 8.
+pub fn free(h: Heap, arena: &mut [u8], addr: Addr, size: u64, align: u64) -> Done
+    ensures { λ r. ⌜ Is (after (Calls.free addr size align) h (now (arena .entry))) r (now (arena .exit)) ⌝ }
+{
+    let d = decide(h, arena, addr, size, align);
+    write(arena, d)
+}

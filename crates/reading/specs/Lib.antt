@@ -1,2 +1,0 @@
--- Frames, as definitions.
-pub mod Frames
