@@ -6,7 +6,7 @@ use Prim.Native.Nat.{ℕ, _-_, _≤_}
 use native.Mathlib.Omega.{arith}
 use lib.ListN.{length}
 use Rattle.rules.specs.Holes.{largest}
-use Rattle.rules.specs.Sound.{size, soundNumbers, soundHoles, holes}
+use Rattle.rules.specs.Sound.{size, soundHoles, holes}
 use Rattle.rules.specs.Calls.{Call, refused, told, list, room}
 use Rattle.rules.specs.Outcome.{outcome}
 use Rattle.rules.specs.declared.Heap.{Heap}
@@ -21,7 +21,7 @@ use Rattle.rules.proofs.Calls.{outcome-fair, sifted-sound, sifted-broken, list-
 use Rattle.numbers.specs.Checks.{checkedOf}
 use Rattle.numbers.specs.declared.Checked.{Checked}
 use Rattle.numbers.specs.declared.Checked.the-variants.{No}
-use Rattle.numbers.proofs.Verdicts.{refuses-call}
+use Rattle.numbers.proofs.Verdicts.{Tested, refuses-call}
 use Rattle.reports.specs.Reports.{surveyOf, countOf}
 use Rattle.reports.specs.declared.Survey.{Survey}
 use Rattle.reports.specs.declared.Survey.the-variants as survey
@@ -56,15 +56,15 @@ module _ (h : Heap) (m : List ℕ) where
       → outcome c h m ≡ refused r
   report-no c later l is e = refuses-call c h m later (rw l at (sym is ∙ e))
 
-  module _ (lent : Lent h m) (numbers : soundNumbers h ≡ true) where
+  module _ (t : Tested h m) where
     pub report-broken : (c : Call) → Opens c ≡ false → soundHoles h (holes h m) ≡ false → outcome c h m ≡ refused NotSound
-    report-broken c later s = outcome-fair c h m later (lent .lent) numbers ∙ sifted-broken h (holes h m) _ s
+    report-broken c later s = outcome-fair c h m later (t .lent .lent) (t .numbers) ∙ sifted-broken h (holes h m) _ s
 
     pub room-told : {n g : ℕ} → Surveyed (survey.Of n g) → outcome room h m ≡ told (Room g n) []
-    room-told s = room-on h m (lent .lent) numbers ∙ sifted-sound h (holes h m) _ (s .0) ∙ rw (s .1, s .2)
+    room-told s = room-on h m (t .lent .lent) (t .numbers) ∙ sifted-sound h (holes h m) _ (s .0) ∙ rw (s .1, s .2)
 
     pub list-told : {n : ℕ} → Counted (count.Of n) → outcome list h m ≡ told (Listed n (size h - h .used)) (holes h m)
-    list-told s = list-on h m (lent .lent) numbers ∙ sifted-sound h (holes h m) _ (s .0) ∙ rw (s .1)
+    list-told s = list-on h m (t .lent .lent) (t .numbers) ∙ sifted-sound h (holes h m) _ (s .0) ∙ rw (s .1)
 
   -- used is a part of size, the rest of which is free
   pub used-fits : Lent h m → soundHoles h (holes h m) ≡ true → h .used ≤ size h

@@ -8,10 +8,10 @@ use gathering::survey;
 use hole::arena_len;
 use numbers::Checked;
 use numbers::check;
+use numbers::fair_size;
 use rules::Answer;
 use rules::Heap;
 use rules::Refusal;
-use walk::heap_size;
 ghost use mathlib.Core.Path.{_≡_};
 ghost use Rattle.rules.specs.Calls as Calls;
 ghost use Rattle.rules.specs.Outcome.{after, rows, rowsAfter};
@@ -62,6 +62,6 @@ pub fn list(h: Heap, arena: &[u8], addrs: &mut [u64], sizes: &mut [u64]) -> Answ
     fill(h, arena, addrs, sizes);
     Answer::Listed {
         holes: count,
-        free: heap_size(h) - h.used,
+        free: fair_size(h) - h.used,
     }
 }

@@ -14,7 +14,6 @@ use rules::Addr;
 use rules::Hole;
 use rules::Place;
 pub use to_end::adds_up;
-pub use to_end::heap_size;
 pub use to_end::is_all_free;
 pub use to_end::is_sound;
 pub use to_end::walk;

@@ -5,6 +5,7 @@ use crate::behind;
 use crate::first_floor;
 use crate::is_end;
 use crate::next;
+use numbers::fair_size;
 use rules::Addr;
 use rules::Heap;
 use rules::Place;
@@ -40,20 +41,12 @@ pub fn walk(h: Heap, arena: &[u8], from: Place, low: Addr, before: u64) -> Walke
     }
 }
 
-// The bytes of a heap, used or free.
-pub fn heap_size(h: Heap) -> u64
-    requires { ⌜ Fair h ⌝ }
-    ensures { λ r. ⌜ r ≡ size h ⌝ }
-{
-    h.top.0 - h.bottom.0
-}
-
 // A sum of sizes is size − used: all that is free.
 pub fn is_all_free(h: Heap, total: u64) -> bool
     requires { ⌜ Fair h ⌝ }
     ensures { λ r. ⌜ r ≡ eqb (total + h .used) (size h) ⌝ }
 {
-    let size = heap_size(h);
+    let size = fair_size(h);
     if size < h.used {
         return false;
     }

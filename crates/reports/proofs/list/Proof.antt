@@ -1,13 +1,10 @@
 -- `reports::list` meets its contract: what its tests and its pass say is the answer, and `fill` fills the rows. Assumes nothing.
-use mathlib.Core.Path.{_≡_, refl, sym, _∙_}
-use mathlib.Core.Bool.{true}
+use mathlib.Core.Path.{refl, sym, _∙_}
 use native.Mathlib.Omega.{arith}
 use borrow.Author.Needs.{needs}
-use Rattle.rules.specs.Sound.{soundNumbers}
 use Rattle.rules.specs.Calls.{list}
-use Rattle.rules.specs.Inner.{Lent}
 use Rattle.rules.proofs.Calls.{answer-refused, answer-told, rows-refused, rows-told}
-use Rattle.numbers.proofs.Verdicts.{tested-lent, tested-numbers}
+use Rattle.numbers.proofs.Verdicts.{Tested, tested}
 use Rattle.reports.proofs.Reported.{counted, report-no, report-broken, list-told, used-fits}
 use Rattle.reports.proofs.list.Statement.{statement}
 use Rattle.reports.proofs.list.Tie as tie
@@ -17,13 +14,8 @@ use Rattle.reports.proofs.list.Tie as tie
 abbrev start : tie.After-check → tie.Start
 start c = c .before .before .before .before .before
 
-lent : (c : tie.At-match-keys2) → Lent (start (c .before) .args .h) (start (c .before) .args .arena .now)
-lent c = tested-lent _ _ (c .before .before .arena-len .ensures .0) (c .before .check .ensures) (c .match .keys2)
-
-numbers : (c : tie.At-match-keys2) → soundNumbers (start (c .before) .args .h) ≡ true
-numbers c =
-    let s = start (c .before) .args in
-    tested-numbers (s .h) (s .arena .now) (c .before .before .arena-len .ensures .0) (c .before .check .ensures) (c .match .keys2)
+passed : (c : tie.At-match-keys2) → Tested (start (c .before) .args .h) (start (c .before) .args .arena .now)
+passed c = tested _ _ (c .before .before .arena-len .ensures .0) (c .before .check .ensures) (c .match .keys2)
 
 -- ---- the needs
 
@@ -47,7 +39,7 @@ enum-told : tie.Need-enum-told
 enum-told c = search needs
 
 count-holes-requires : tie.Need-count-holes-requires
-count-holes-requires c κs = lent (c .before)
+count-holes-requires c κs = passed (c .before) .lent
 
 enum-known-found : tie.Need-enum-known-found
 enum-known-found c = search needs
@@ -60,7 +52,7 @@ returns-2 c =
     let v = c .before .before in
     let k = v .before .before in
     let s = start (k .before) .args in
-    let e = report-broken _ _ (lent k) (numbers k) list refl (counted _ _ (v .count-holes .ensures) (c .enum-told2 .given .1)) in
+    let e = report-broken _ _ (passed k) list refl (counted _ _ (v .count-holes .ensures) (c .enum-told2 .given .1)) in
     (sym (answer-refused list (s .h) (s .arena .now) _ e), sym (rows-refused list (s .h) (s .arena .now) _ _ e))
 
 fill-requires : tie.Need-fill-requires
@@ -70,21 +62,22 @@ fill-requires c κs =
     let k = v .before .before in
     let known = k .before .before .before .before .before .shared-slice-known in
     record {
-      ready = record { lent = lent k; bytes = λ j. known .given j .fits };
+      ready = record { lent = passed k .lent; bytes = λ j. known .given j .fits };
       sound = counted _ _ (v .count-holes .ensures) (f .found .given .1) .0;
     }
 
-heap-size-requires : tie.Need-heap-size-requires
-heap-size-requires c κs =
-    lent (c .before .before .before .before .before .before .before .before .before .before .before .before) .fair
+fair-size-requires : tie.Need-fair-size-requires
+fair-size-requires c κs =
+    let f = passed (c .before .before .before .before .before .before .before .before .before .before .before .before) .lent .fair in
+    omega arith
 
 sub-t16 : tie.Need-sub-t16
 sub-t16 c =
     let z = c .before in
     let f = z .before .before .before .before .before .before .before .before .before in
     let v = f .before .before in
-    let u = used-fits _ _ (lent (v .before .before)) (counted _ _ (v .count-holes .ensures) (f .found .given .1) .0) in
-    omega (arith, z .heap-size .ensures)
+    let u = used-fits _ _ (passed (v .before .before) .lent) (counted _ _ (v .count-holes .ensures) (f .found .given .1) .0) in
+    omega (arith, z .fair-size .ensures)
 
 same-length : tie.Need-same-length
 same-length c = search needs
@@ -100,8 +93,8 @@ returns-3 c =
     let v = f .before .before in
     let k = v .before .before in
     let s = start (k .before) .args in
-    let e = list-told _ _ (lent k) (numbers k) (counted _ _ (v .count-holes .ensures) (f .found .given .1)) in
-    (rw (z .heap-size .ensures) (sym (answer-told list (s .h) (s .arena .now) _ _ e)), filled ∙ sym (rows-told list (s .h) (s .arena .now) _ _ _ e))
+    let e = list-told _ _ (passed k) (counted _ _ (v .count-holes .ensures) (f .found .given .1)) in
+    (rw (z .fair-size .ensures) (sym (answer-told list (s .h) (s .arena .now) _ _ e)), filled ∙ sym (rows-told list (s .h) (s .arena .now) _ _ _ e))
 
 pub list-spec : {M : Type 1} → statement M
 list-spec =
@@ -117,7 +110,7 @@ list-spec =
     enum-told-2
     returns-2
     fill-requires
-    heap-size-requires
+    fair-size-requires
     sub-t16
     same-length
     same-length-2

@@ -1,13 +1,10 @@
 -- `reports::room` meets its contract: what its tests and its pass say is the answer. Assumes nothing.
-use mathlib.Core.Path.{_≡_, refl, sym}
-use mathlib.Core.Bool.{true}
+use mathlib.Core.Path.{refl, sym}
 use mathlib.Core.List.{[]}
 use borrow.Author.Needs.{needs}
-use Rattle.rules.specs.Sound.{soundNumbers}
 use Rattle.rules.specs.Calls.{room}
-use Rattle.rules.specs.Inner.{Lent}
 use Rattle.rules.proofs.Calls.{answer-refused, answer-told}
-use Rattle.numbers.proofs.Verdicts.{tested-lent, tested-numbers}
+use Rattle.numbers.proofs.Verdicts.{Tested, tested}
 use Rattle.reports.proofs.Reported.{surveyed, report-no, report-broken, room-told}
 use Rattle.reports.proofs.room.Statement.{statement}
 use Rattle.reports.proofs.room.Tie as tie
@@ -17,13 +14,8 @@ use Rattle.reports.proofs.room.Tie as tie
 abbrev start : tie.After-check → tie.Start
 start c = c .before .before .before
 
-lent : (c : tie.At-match-keys2) → Lent (start (c .before) .args .h) (start (c .before) .args .arena .now)
-lent c = tested-lent _ _ (c .before .before .arena-len .ensures .0) (c .before .check .ensures) (c .match .keys2)
-
-numbers : (c : tie.At-match-keys2) → soundNumbers (start (c .before) .args .h) ≡ true
-numbers c =
-    let s = start (c .before) .args in
-    tested-numbers (s .h) (s .arena .now) (c .before .before .arena-len .ensures .0) (c .before .check .ensures) (c .match .keys2)
+passed : (c : tie.At-match-keys2) → Tested (start (c .before) .args .h) (start (c .before) .args .arena .now)
+passed c = tested _ _ (c .before .before .arena-len .ensures .0) (c .before .check .ensures) (c .match .keys2)
 
 -- ---- the needs
 
@@ -47,7 +39,7 @@ enum-told : tie.Need-enum-told
 enum-told c = search needs
 
 survey-requires : tie.Need-survey-requires
-survey-requires c κs = lent (c .before)
+survey-requires c κs = passed (c .before) .lent
 
 enum-known-found : tie.Need-enum-known-found
 enum-known-found c = search needs
@@ -61,7 +53,7 @@ returns-2 c =
     let k = v .before .before in
     let s = start (k .before) .args in
     sym (answer-refused room (s .h) (s .arena .now) _
-    (report-broken _ _ (lent k) (numbers k) room refl (surveyed _ _ (v .survey .ensures) (c .enum-told2 .given .1))))
+    (report-broken _ _ (passed k) room refl (surveyed _ _ (v .survey .ensures) (c .enum-told2 .given .1))))
 
 returns-3 : tie.Need-returns-3
 returns-3 c =
@@ -69,7 +61,7 @@ returns-3 c =
     let k = v .before .before in
     let s = start (k .before) .args in
     sym (answer-told room (s .h) (s .arena .now) _ []
-    (room-told _ _ (lent k) (numbers k) (surveyed _ _ (v .survey .ensures) (c .before .found .given .1))))
+    (room-told _ _ (passed k) (surveyed _ _ (v .survey .ensures) (c .before .found .given .1))))
 
 pub room-spec : {M : Type 1} → statement M
 room-spec =
