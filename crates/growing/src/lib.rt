@@ -1,7 +1,5 @@
 // Extension: bytes of the arena behind top become free.
-use cursor::Cursor;
 use hole_list::refuse;
-use hole_list::sums_up;
 use joining::insert;
 use rules::Addr;
 use rules::Answer;
@@ -11,8 +9,10 @@ use rules::Heap;
 use rules::Hole;
 use rules::MIN_SIZE;
 use rules::Refusal;
-use spotting::Spot;
-use spotting::neighbours;
+use walk::Cursor;
+use walk::Spot;
+use walk::is_all_free;
+use walk::neighbours;
 ghost use mathlib.Core.Path.{_≡_};
 ghost use Prim.Native.Nat.{_+_, _%_, _≤_};
 ghost use Rattle.rules.specs.Fixed.{grain};
@@ -22,7 +22,7 @@ ghost use Rattle.rules.specs.Sound.{size, holes};
 ghost use Rattle.rules.specs.Calls.{grown};
 ghost use Rattle.rules.specs.Outcome.{Is, leaves};
 ghost use Rattle.rules.specs.Inner.{Fair, sifted, extending};
-ghost use Rattle.hole_list.specs.Settled.{Ready, Settled};
+ghost use Rattle.walk.specs.Settled.{Ready, Settled};
 ghost use Rattle.joining.specs.Span.{Free};
 
 // The bytes only accumulate.
@@ -72,7 +72,7 @@ pub fn extend(h: Heap, arena: &mut [u8], by: u64) -> Done
     let Spot::Between(near) = spot else {
         return refuse(h, Refusal::NotSound);
     };
-    if !sums_up(h, near.total) {
+    if !is_all_free(h, near.total) {
         return refuse(h, Refusal::NotSound);
     }
     let room = h.base.0 + h.len - top.0 - h.pending;

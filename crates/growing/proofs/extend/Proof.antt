@@ -7,7 +7,7 @@ use borrow.Author.Needs.{needs}
 use borrow.Author.Tests.{not-true, not-false}
 use Rattle.rules.specs.Sound.{soundHoles, holes}
 use Rattle.rules.specs.Inner.{extending}
-use Rattle.spotting.specs.declared.Near.{Near}
+use Rattle.walk.specs.declared.Near.{Near}
 use Rattle.hole_list.proofs.Sifted.{broken-is}
 use Rattle.joining.proofs.Neighbours.{near-broken, Sought, seeks}
 use Rattle.growing.proofs.Extending.{top-sound, top-free, past-is, gathers-is, grows-is}
@@ -16,19 +16,19 @@ use Rattle.growing.proofs.extend.Tie as tie
 
 -- ---- what is known once the search has passed every hole, and once the sum is right
 
-abbrev start : tie.After-sums-up → tie.Start
+abbrev start : tie.After-is-all-free → tie.Start
 start c = c .before .before .before .before .before .before .before .before
 
-abbrev near : tie.After-sums-up → Near
+abbrev near : tie.After-is-all-free → Near
 near c = c .before .before .spot .given .0 .0
 
-sought : (c : tie.After-sums-up) → Sought (start c .args .h) (start c .args .arena .now) (start c .args .h .top) (near c)
+sought : (c : tie.After-is-all-free) → Sought (start c .args .h) (start c .args .arena .now) (start c .args .h .top) (near c)
 sought c =
     let p = c .before .before in
     seeks (start c .pre .lent .fair) (p .before .before .neighbours .ensures) (p .spot .given .1)
 
-decided : (c : tie.After-sums-up) → soundHoles (start c .args .h) (holes (start c .args .h) (start c .args .arena .now)) ≡ c .sums-up .result
-decided c = top-sound (sought c) ∙ sym (c .sums-up .ensures)
+decided : (c : tie.After-is-all-free) → soundHoles (start c .args .h) (holes (start c .args .h) (start c .args .arena .now)) ≡ c .is-all-free .result
+decided c = top-sound (sought c) ∙ sym (c .is-all-free .ensures)
 
 sound : (c : tie.Else1)
     → soundHoles (start (c .before) .args .h) (holes (start (c .before) .args .h) (start (c .before) .args .arena .now)) ≡ true
@@ -60,8 +60,8 @@ returns c =
     let broken = near-broken h m (h .top) (s .pre .lent .fair) (t .neighbours .ensures) (c .before .enum-told .given .1) in
     broken-is h m (holes h m) (extending (s .args .by) h (holes h m)) broken (c .refuse .ensures)
 
-sums-up-requires : tie.Need-sums-up-requires
-sums-up-requires c κs = search needs
+is-all-free-requires : tie.Need-is-all-free-requires
+is-all-free-requires c κs = search needs
 
 refuse-requires-2 : tie.Need-refuse-requires-2
 refuse-requires-2 c κs = search needs
@@ -160,7 +160,7 @@ extend-spec =
     refuse-requires
     same-length
     returns
-    sums-up-requires
+    is-all-free-requires
     refuse-requires-2
     same-length-2
     returns-2
