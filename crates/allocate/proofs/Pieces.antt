@@ -26,13 +26,14 @@ use Rattle.rules.proofs.Lists.{Holds, holds-split}
 use Rattle.rules.proofs.Relink.{put-append, put-one}
 use Rattle.rules.proofs.Used.{candidate-low, suits-fits, suits-leaves, used-rises, find-total}
 use Rattle.rules.proofs.Written.{put-some, decides-changed}
-use Rattle.cursor.specs.Walk.{Asked, startOf, lastPlace}
-use Rattle.fitting.specs.FirstFit.{searchOf}
-use Rattle.fitting.specs.declared.Fit.{Fit}
-use Rattle.fitting.specs.declared.Search.the-variants as search
-use Rattle.fitting.proofs.ToFit.{Fits, fit-at}
-use Rattle.hole_list.specs.Settled.{Settled}
-use Rattle.hole_list.proofs.Stands.{stands}
+use Rattle.walk.specs.Settled.{Asked}
+use Rattle.walk.specs.Walk.{startOf, lastPlace}
+use Rattle.walk.specs.Walk.{searchOf}
+use Rattle.walk.specs.declared.Fit.{Fit}
+use Rattle.walk.specs.declared.Search.the-variants as search
+use Rattle.walk.proofs.ToFit.{Fits, fit-at}
+use Rattle.walk.specs.Settled.{Settled}
+use Rattle.walk.proofs.Stands.{stands}
 use Rattle.joining.specs.declared.Relinked.{Relinked}
 use Rattle.joining.proofs.Linked.{Linked, Middle, last-inside, front-rises, first-on, keeps, links}
 use Rattle.allocate.specs.Granted.{remainder, leadsTo, splitTo, granted}
@@ -78,8 +79,8 @@ module _ (base lo hi : Addr) (q : Place) where
 
 -- where it lies among the holes
 pub found : (h : Heap) (m : List ℕ) (want align : ℕ) {f : Fit}
-    → searchOf h want align (startOf h) none 0 0 (holes h m) ≡ search.At f → Fits h want align (startOf h) none 0 0 (holes h m) f
-found h m want align at = fit-at h want align (startOf h) none 0 0 (holes h m) at
+    → searchOf h want align (holes h m) ≡ search.At f → Fits h want align (holes h m) f
+found h m want align at = fit-at h want align (holes h m) at
 
 -- the sums and the tests of the code
 pub record Room (h : Heap) (len want align : ℕ) (f : Fit) : Type 0 where
@@ -101,7 +102,7 @@ module _
     {f : Fit}
     (settled : Settled h m)
     (asked : Asked want align)
-    (fits : Fits h want align (startOf h) none 0 0 (holes h m) f)
+    (fits : Fits h want align (holes h m) f)
   where
     pos : 0 < align
     pos = power-pos (asked .power)

@@ -15,8 +15,8 @@ use Rattle.rules.specs.declared.Write.{Write}
 use Rattle.rules.specs.declared.Refusal.{Refusal}
 use Rattle.rules.specs.declared.Refusal.the-variants.{NotSound, NoRoom}
 use Rattle.rules.specs.Inner.{write, nothing, sifted}
-use Rattle.fitting.specs.declared.Search.{Search}
-use Rattle.fitting.specs.declared.Search.the-variants as search
+use Rattle.walk.specs.declared.Search.{Search}
+use Rattle.walk.specs.declared.Search.the-variants as search
 use Rattle.joining.specs.declared.Relinked.{Relinked}
 use Rattle.joining.specs.Span.{relinked, linkedTo}
 
@@ -36,7 +36,7 @@ grantedIfSound want align h m = leaves h m (sifted h (holes h m) (takes want ali
 -- why a search that found no hole is refused
 unfoldable pub noFit : Heap → Search → Refusal
 noFit h (search.At f) = NotSound
-noFit h (search.Full count total) = cond (eqb (total + h .used) (size h)) (NoRoom count) NotSound
+noFit h (search.Nowhere count total) = cond (eqb (total + h .used) (size h)) (NoRoom count) NotSound
 noFit h search.Bad = NotSound
 
 -- ---- a hole is used

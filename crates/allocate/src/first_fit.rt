@@ -1,20 +1,20 @@
 // The first suiting hole, and the refusals where none is found.
 use crate::split::split_current;
-use cursor::walk;
-use fitting::Search;
-use fitting::first_fit;
 use hole::refuse;
-use hole_list::adds_up;
-use hole_list::sums_up;
 use rules::Addr;
 use rules::Decided;
 use rules::Heap;
 use rules::MIN_SIZE;
 use rules::Refusal;
+use walk::Search;
+use walk::adds_up;
+use walk::first_fit;
+use walk::is_all_free;
+use walk::walk;
 ghost use mathlib.Core.Path.{_≡_};
 ghost use Rattle.rules.specs.Inner.{Fair, Decides, refusing};
-ghost use Rattle.cursor.specs.Walk.{Asked};
-ghost use Rattle.hole_list.specs.Settled.{Ready};
+ghost use Rattle.walk.specs.Settled.{Asked};
+ghost use Rattle.walk.specs.Settled.{Ready};
 ghost use Rattle.allocate.specs.Granted.{noFit, grantedIfSound};
 
 // No hole suits, or a head breaks a rule.
@@ -22,10 +22,10 @@ fn no_fit(h: Heap, found: Search) -> Decided
     requires { ⌜ Fair h ⌝ }
     ensures { λ d. ⌜ d ≡ refusing h (noFit h found) ⌝ }
 {
-    let Search::Full { count, total } = found else {
+    let Search::Nowhere { count, total } = found else {
         return refuse(h, Refusal::NotSound);
     };
-    if sums_up(h, total) {
+    if is_all_free(h, total) {
         return refuse(h, Refusal::NoRoom { holes: count });
     }
     refuse(h, Refusal::NotSound)

@@ -1,7 +1,4 @@
 // The hole that an allocation found, used and split.
-use fitting::Fit;
-use fitting::Search;
-use fitting::candidate;
 use hole::nothing;
 use hole::place_of;
 use joining::Relinked;
@@ -15,14 +12,18 @@ use rules::NONE;
 use rules::Place;
 use rules::Write;
 use rules::Writes;
+use walk::Fit;
+use walk::Search;
+use walk::candidate;
 ghost use mathlib.Core.Path.{_≡_};
 ghost use Prim.Native.Nat.{_≤_};
 ghost use Rattle.rules.specs.Kinds.{none};
 ghost use Rattle.rules.specs.Sound.{holes};
 ghost use Rattle.rules.specs.Inner.{Inside, Decides};
-ghost use Rattle.cursor.specs.Walk.{Asked, startOf};
-ghost use Rattle.fitting.specs.FirstFit.{searchOf};
-ghost use Rattle.hole_list.specs.Settled.{Settled};
+ghost use Rattle.walk.specs.Settled.{Asked};
+ghost use Rattle.walk.specs.Walk.{startOf};
+ghost use Rattle.walk.specs.Walk.{searchOf};
+ghost use Rattle.walk.specs.Settled.{Settled};
 ghost use Rattle.allocate.specs.Granted.{remainder, leadsTo, splitTo, granted};
 
 // What remains between two addresses becomes a hole that leads to `next`; between equal ones nothing
@@ -75,7 +76,7 @@ fn relink(first: Place, arena: &[u8], prev: Place, front: Write, rear: Write, to
 
 // Uses the hole that was found: what remains of it behind the block and in front of it become holes.
 pub fn split_current(h: Heap, arena: &[u8], fit: Fit, want: u64, align: u64) -> Decided
-    requires { ⌜ Settled h (now arena) × Asked want align × (searchOf h want align (startOf h) none 0 0 (holes h (now arena)) ≡ Search.At fit) ⌝ }
+    requires { ⌜ Settled h (now arena) × Asked want align × (searchOf h want align (holes h (now arena)) ≡ Search.At fit) ⌝ }
     ensures { λ d. ⌜ Decides (granted want align h (now (arena .entry))) (now (arena .entry)) d ⌝ }
 {
     let base = h.base;

@@ -15,12 +15,7 @@ ghost use Rattle.c_face.specs.Face.{heapOf, Shows, Carried};
 // Puts what a call decided into the words of its heap and its answer, and then writes its heads. The words
 // go first: nothing tells the compiler that the lent arrays do not overlap, and a head stored before
 // them would keep every word of the heap alive through the search.
-fn carry_out(
-    heap: &mut [u64; 7],
-    arena: &mut [u8],
-    answer: &mut [u64; 2],
-    d: Decided,
-) -> u64
+fn carry_out(heap: &mut [u64; 7], arena: &mut [u8], answer: &mut [u64; 2], d: Decided) -> u64
     requires { ⌜ Inside (now arena) (d .heads .one .at) × Inside (now arena) (d .heads .two .at) ⌝ }
     ensures { λ r. ⌜ Carried d r (now (heap .exit)) (now (answer .exit)) (now (arena .entry)) (now (arena .exit)) ⌝ }
 {

@@ -29,52 +29,47 @@ use Rattle.rules.proofs.Rises.{rises-back, sound-rises}
 use Rattle.rules.proofs.Lists.{heads-to}
 use Rattle.rules.proofs.Relink.{put-same}
 use Rattle.rules.proofs.Written.{decides-refused, decides-changed, decides-sound}
-use Rattle.cursor.specs.Walk.{startOf, lastOf, lastPlace}
-use Rattle.spotting.specs.Nearest.{nearAt, stoppedNear, nearOf}
-use Rattle.spotting.specs.declared.Near.{Near}
-use Rattle.spotting.specs.declared.Spot.the-variants as spot
-use Rattle.hole_list.specs.Settled.{Ready, Settled}
-use Rattle.hole_list.proofs.AddsUp.{by-walk}
-use Rattle.hole_list.proofs.Stands.{stands}
+use Rattle.walk.specs.Walk.{startOf, nearOf, lastPlace}
+use Rattle.walk.specs.Settled.{Ready, Settled}
+use Rattle.walk.specs.declared.Near.{Near}
+use Rattle.walk.specs.declared.Spot.the-variants as spot
+use Rattle.walk.proofs.AddsUp.{by-walk}
+use Rattle.walk.proofs.Stands.{stands}
+use Rattle.walk.proofs.ToSpan.{Lies}
 use Rattle.joining.specs.Span.{Free}
 use Rattle.joining.specs.declared.Relinked.{Relinked}
 use Rattle.joining.proofs.Linked.{Linked}
-use Rattle.joining.proofs.Neighbours.{no-bad, Sought}
+use Rattle.joining.proofs.Neighbours.{Sought, lies}
 use Rattle.extend.specs.Growth.{gathering, growing, extendedIfSound}
 
 -- ---- the search from top
 
 -- it passes every hole, finds every rule kept, and stops behind the last
-pub record AtEnd (h : Heap) (low : Addr) (from : Place) (total : ℕ) (ks : List Hole) (near : Near) : Type 0 where
-  pub walked : walks h low ks ≡ true
-  pub prev : near .cursor .prev ≡ lastPlace (h .base) from ks
+pub record AtEnd (h : Heap) (ks : List Hole) (near : Near) : Type 0 where
+  pub walked : walks h (startOf h) ks ≡ true
+  pub prev : near .cursor .prev ≡ lastPlace (h .base) none ks
   pub next : near .cursor .hole ≡ none
-  pub summed : near .total ≡ total + Holes.total ks
+  pub summed : near .total ≡ Holes.total ks
 
 -- no hole lies beyond top, where a hole that keeps its rules has ended
-at-end : (h : Heap) (low : Addr) (from : Place) (total : ℕ) (ks : List Hole) {near : Near}
-    → nearOf h (h .top) low from total ks ≡ spot.Between near → AtEnd h low from total ks near
-unfolding nearOf stoppedNear lastOf walks lastPlace Holes.total
-at-end h low from total [] {near} e =
-    cases (ends h low)
-    (λ q.
-    let b : spot.Between (nearAt from none low total) ≡ spot.Between near = rw q at e in
-    let i : nearAt from none low total ≡ near = cc in
-    record { walked = q; prev = rw (← i); next = rw (← i); summed = rw (← i) (omega arith) })
-    (λ q. no-bad (rw q at e))
-at-end h low from total (k ∷ ks) {near} e =
-    cases (all (headRules h low k))
-    (λ r.
-    let q = rules-keep h low k r in
-    let i =
-    at-end h (behind k) (placeOf (h .base) (k .addr)) (total + k .size) ks
-    (rw (r, le-ltb (h .top .0) (k .addr .0) (omega arith)) at e) in
-    record { walked = both r (i .walked); prev = i .prev; next = i .next; summed = omega (arith, i .summed) })
-    (λ r. no-bad (rw r at e))
+at-end : (h : Heap) (ks front back : List Hole) {near : Near} (l : Lies h (h .top) ks near) → l .front ≡ front → l .back ≡ back → AtEnd h ks near
+unfolding walks firstOf
+at-end h ks front [] {near} l f b =
+    let list : ks ≡ front = l .list ∙ rw (f, b, append-nil) in
+    record {
+      walked = l .onward ∙ rw b (rw b at (l .begins));
+      prev = l .prev ∙ rw (f, list);
+      next = l .at ∙ rw b;
+      summed = l .summed ∙ rw (f, list);
+    }
+at-end h ks front (k ∷ back) {near} l f b =
+    let r = rules-keep h (near .floor) k (rw b at (l .begins)) in
+    let x = rw b at (l .beyond) in
+    absurd (omega arith)
 
 module _ {h : Heap} {m : List ℕ} {near : Near} (k : Sought h m (h .top) near) where
-  ended : AtEnd h (startOf h) none 0 (holes h m) near
-  ended = at-end h (startOf h) none 0 (holes h m) (k .found)
+  ended : AtEnd h (holes h m) near
+  ended = at-end h (holes h m) _ _ (lies k) refl refl
 
   -- so the sum alone decides the rules on all holes
   pub top-sound : soundHoles h (holes h m) ≡ eqb (near .total + h .used) (size h)

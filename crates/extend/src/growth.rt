@@ -1,8 +1,6 @@
 // Bytes of the arena behind top: they accumulate, or become free.
-use cursor::Cursor;
 use hole::nothing;
 use hole::refuse;
-use hole_list::sums_up;
 use joining::insert;
 use rules::Addr;
 use rules::Answer;
@@ -13,8 +11,10 @@ use rules::Hole;
 use rules::MIN_SIZE;
 use rules::Refusal;
 use rules::Writes;
-use spotting::Spot;
-use spotting::neighbours;
+use walk::Cursor;
+use walk::Spot;
+use walk::is_all_free;
+use walk::neighbours;
 ghost use mathlib.Core.Path.{_≡_};
 ghost use Prim.Native.Nat.{_+_, _≤_};
 ghost use Rattle.rules.specs.Fixed.{grain};
@@ -22,7 +22,7 @@ ghost use Rattle.rules.specs.Round.{downTo};
 ghost use Rattle.rules.specs.Holes.{hole};
 ghost use Rattle.rules.specs.Sound.{holes};
 ghost use Rattle.rules.specs.Inner.{Fair, Decides};
-ghost use Rattle.hole_list.specs.Settled.{Ready, Settled};
+ghost use Rattle.walk.specs.Settled.{Ready, Settled};
 ghost use Rattle.joining.specs.Span.{Free};
 ghost use Rattle.extend.specs.Growth.{gathering, growing, extendedIfSound};
 
@@ -81,7 +81,7 @@ pub fn extend_top(h: Heap, arena: &[u8], by: u64) -> Decided
     let Spot::Between(near) = spot else {
         return refuse(h, Refusal::NotSound);
     };
-    if !sums_up(h, near.total) {
+    if !is_all_free(h, near.total) {
         return refuse(h, Refusal::NotSound);
     }
     let room = h.base.0 + h.len - top.0 - h.pending;

@@ -13,7 +13,7 @@ use Rattle.rules.specs.Inner.{Rises, endOr}
 use Rattle.rules.proofs.Cases.{or-left, or-right}
 use Rattle.rules.proofs.Rises.{rises-widen}
 use Rattle.rules.proofs.Clear.{Clear, Follows, clear-rest, clear-follows, clear-followed, ClearBefore, ClearBehind, overlaps-append, eight-append}
-use Rattle.spotting.proofs.ToSpan.{AllFrom, Beyond}
+use Rattle.walk.proofs.ToSpan.{AllFrom, Beyond}
 
 pub clear-split : (g : Hole) (front back : List Hole) → Clear g (front ++ back) → Clear g front × Clear g back
 clear-split g front back c =

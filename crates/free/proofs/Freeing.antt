@@ -17,7 +17,7 @@ use Rattle.rules.specs.declared.Refusal.the-variants.{BadSpan}
 use Rattle.rules.specs.declared.Answer.the-variants.{Freed}
 use Rattle.rules.specs.Inner.{freeing, refusing, Decides}
 use Rattle.rules.proofs.Written.{decides-refused, decides-sound, decides-changed}
-use Rattle.spotting.specs.declared.Near.{Near}
+use Rattle.walk.specs.declared.Near.{Near}
 use Rattle.joining.specs.Span.{Free}
 use Rattle.free.specs.SpanTests.{Around, mayFree, frees, freedIfSound}
 use Rattle.joining.specs.declared.Relinked.{Relinked}

@@ -13,7 +13,7 @@ use Rattle.rules.specs.declared.Hole.{Hole}
 use Rattle.rules.specs.declared.Heap.{Heap}
 use Rattle.rules.proofs.Cases.{cases, and-left, and-right}
 use Rattle.rules.proofs.Clear.{Follows}
-use Rattle.spotting.specs.declared.Near.{Near}
+use Rattle.walk.specs.declared.Near.{Near}
 use Rattle.free.specs.SpanTests.{keepsGap, insideOf, betweenOf, mayFree}
 
 -- ---- two addresses

@@ -18,9 +18,9 @@ use Rattle.rules.proofs.Cases.{iff, and-left, and-right, both, all-each, each-a
 use Rattle.rules.proofs.Walk.{sound-sum}
 use Rattle.rules.proofs.Rises.{rises-le, rises-widen, rises-front, rises-back, sound-rises}
 use Rattle.rules.proofs.Clear.{Clear, Follows, passed, ClearBefore, ClearBehind, clear-none, clear-room}
-use Rattle.cursor.specs.Walk.{startOf}
-use Rattle.spotting.specs.declared.Near.{Near}
-use Rattle.spotting.proofs.ToSpan.{Lies}
+use Rattle.walk.specs.Walk.{startOf}
+use Rattle.walk.specs.declared.Near.{Near}
+use Rattle.walk.proofs.ToSpan.{Lies}
 use Rattle.joining.specs.Span.{Free}
 use Rattle.free.specs.SpanTests.{Around, keepsGap, insideOf, betweenOf, mayFree}
 use Rattle.free.proofs.Gaps.{gap-follows, follows-gap, keepsBefore, keepsBehind}
@@ -34,7 +34,7 @@ module _
     (ks : List Hole)
     (fair : Fair h)
     (sound : soundHoles h ks ≡ true)
-    (lies : Lies h (g .addr) (startOf h) none 0 ks near)
+    (lies : Lies h (g .addr) ks near)
   where
     rises : Rises (h .bottom .0) (h .top .0) (lies .front ++ lies .back)
     rises = rw (lies .list) at (sound-rises h fair ks sound)

@@ -16,10 +16,11 @@ use Rattle.rules.specs.Inner.{behind, Rises, endOr}
 use Rattle.rules.proofs.Rises.{rises-le}
 use Rattle.rules.proofs.Lists.{addr-back}
 use Rattle.rules.proofs.Clear.{ClearBefore, ClearBehind}
-use Rattle.spotting.specs.declared.Near.{Near}
-use Rattle.cursor.proofs.Passed.{lastFloor}
-use Rattle.cursor.specs.Walk.{lastPlace}
-use Rattle.joining.proofs.Linked.{last-none, last-place}
+use Rattle.walk.specs.declared.Near.{Near}
+use Rattle.walk.specs.Walk.{lastFloor}
+use Rattle.walk.specs.Walk.{lastPlace}
+use Rattle.joining.proofs.Linked.{last-place}
+use Rattle.walk.proofs.Passed.{last-none}
 use Rattle.free.proofs.Gaps.{gap-follows, follows-gap, keepsBefore, keepsBehind, before-none, before-gap}
 
 -- the floor lies 16 bytes behind the last hole passed

@@ -15,7 +15,7 @@ use Rattle.rules.specs.Inner.{sifted, freeing}
 use Rattle.rules.specs.declared.Addr.{Addr}
 use Rattle.rules.specs.declared.Hole.{Hole}
 use Rattle.rules.specs.declared.Heap.{Heap}
-use Rattle.spotting.specs.declared.Near.{Near}
+use Rattle.walk.specs.declared.Near.{Near}
 
 -- what the tests of a span lean on: the floor lies behind a hole, the next hole below top
 pub record Around (h : Heap) (near : Near) : Type 0 where

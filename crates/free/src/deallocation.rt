@@ -1,8 +1,6 @@
 // A span of rounded size that becomes free.
 use crate::span::may_free;
-use cursor::walk;
 use hole::refuse;
-use hole_list::adds_up;
 use joining::insert;
 use rules::Addr;
 use rules::Answer;
@@ -10,14 +8,16 @@ use rules::Decided;
 use rules::Heap;
 use rules::Hole;
 use rules::Refusal;
-use spotting::Spot;
-use spotting::neighbours;
+use walk::Spot;
+use walk::adds_up;
+use walk::neighbours;
+use walk::walk;
 ghost use mathlib.Core.Path.{_≡_};
 ghost use Prim.Native.Nat.{_%_};
 ghost use Rattle.rules.specs.Fixed.{grain};
 ghost use Rattle.rules.specs.Inner.{Decides};
-ghost use Rattle.cursor.specs.Walk.{Asked};
-ghost use Rattle.hole_list.specs.Settled.{Ready};
+ghost use Rattle.walk.specs.Settled.{Asked};
+ghost use Rattle.walk.specs.Settled.{Ready};
 ghost use Rattle.free.specs.SpanTests.{freedIfSound};
 
 // Frees a span of rounded size, or refuses with 5 or 8.

@@ -7,7 +7,7 @@ use rules::Heap;
 use rules::Hole;
 use rules::MIN_SIZE;
 use rules::NONE;
-use spotting::Near;
+use walk::Near;
 ghost use mathlib.Core.Path.{_≡_};
 ghost use Prim.Native.Nat.{_+_, _≤_};
 ghost use Rattle.rules.specs.Round.{Power};

@@ -11,7 +11,7 @@ use Rattle.rules.specs.declared.Layout.{Layout}
 use Rattle.rules.specs.declared.Layout.the-variants.{Rounded, Bad}
 use Rattle.rules.proofs.Layout as Layouts
 use Rattle.rules.proofs.Layouts.{rounded-least, rounded-multiple, layout-valid}
-use Rattle.cursor.specs.Walk.{Asked}
+use Rattle.walk.specs.Settled.{Asked}
 
 -- what is not rounded is bad, as a `let .. else` parts it
 bad-is : (l : Layout) → OneOf (1 ∷ []) (tagOf Layouts.the-type l) → l ≡ Bad

@@ -23,12 +23,13 @@ use Rattle.rules.proofs.Walk.{sound-count}
 use Rattle.rules.proofs.Rises.{rises-le, rises-front, rises-back, sound-rises}
 use Rattle.rules.proofs.Lists.{first-or, Holds, holds-split, holds-from}
 use Rattle.rules.proofs.Freed.{Beyond, last-end, inFront-touch, inFront-apart}
-use Rattle.cursor.specs.declared.Cursor.{Cursor}
-use Rattle.cursor.proofs.Turn.{start}
-use Rattle.cursor.specs.Walk.{lastPlace}
-use Rattle.hole_list.specs.Settled.{Settled}
+use Rattle.walk.specs.declared.Cursor.{Cursor}
+use Rattle.walk.proofs.Turn.{start}
+use Rattle.walk.specs.Walk.{lastPlace}
+use Rattle.walk.specs.Settled.{Settled}
 use Rattle.joining.specs.Span.{Free, MayMerge, mergedHead}
-use Rattle.joining.proofs.Linked.{by-last, last-none, last-some}
+use Rattle.joining.proofs.Linked.{by-last}
+use Rattle.walk.proofs.Passed.{last-none, last-some}
 
 -- ---- in front of holes
 

@@ -20,9 +20,9 @@ use Rattle.rules.proofs.Rises.{rises-le, rises-front, rises-back, rises-append}
 use Rattle.rules.proofs.Freed.{freed-first, freed-apart, freed-touch}
 use Rattle.rules.proofs.Relink.{put-one}
 use Rattle.rules.proofs.Written.{put-some}
-use Rattle.cursor.specs.declared.Cursor.{Cursor}
-use Rattle.cursor.specs.Walk.{lastPlace}
-use Rattle.hole_list.specs.Settled.{Settled}
+use Rattle.walk.specs.declared.Cursor.{Cursor}
+use Rattle.walk.specs.Walk.{lastPlace}
+use Rattle.walk.specs.Settled.{Settled}
 use Rattle.joining.specs.Span.{Free, MayMerge, MayEnd, relinked, linkedTo, mergedHead, endsAt}
 use Rattle.joining.proofs.Linked.{Linked, Middle, first-on, keeps, links}
 use Rattle.joining.proofs.Between.{

@@ -19,7 +19,7 @@ use Rattle.rules.specs.Inner.{Bytes, firstOr, putHeadsTo, put, write, written, 
 use Rattle.rules.proofs.Rises.{rises-le, rises-widen, rises-front, rises-back}
 use Rattle.rules.proofs.Lists.{first-or, first-append, Holds}
 use Rattle.rules.proofs.Relink.{link, relink, relink-same}
-use Rattle.cursor.specs.Walk.{lastPlace}
+use Rattle.walk.specs.Walk.{lastPlace}
 use Rattle.joining.specs.declared.Relinked.{Relinked}
 use Rattle.joining.specs.Span.{linkedTo}
 
@@ -32,15 +32,6 @@ by-last (k ∷ ks) f g =
     by-last ks
     (λ e. g [] k (ap (λ (l : List Hole). k ∷ l) e))
     (λ front j e. g (k ∷ front) j (ap (λ (l : List Hole). k ∷ l) e))
-
-pub last-none : (base : Addr) (p : Place) → lastPlace base p [] ≡ p
-unfolding lastPlace
-last-none base p = refl
-
-pub last-some : (base : Addr) (p : Place) (front : List Hole) (k : Hole) → lastPlace base p (front ++ (k ∷ [])) ≡ placeOf base (k .addr)
-unfolding lastPlace
-last-some base p [] k = refl
-last-some base p (j ∷ front) k = last-some base (placeOf base (j .addr)) front k
 
 -- the last of some holes has room for its head below their end
 last-below : (base : Addr) (p : Place) (lo hi : ℕ) (k : Hole) (ks : List Hole) → base .0 ≤ lo → Rises lo hi (k ∷ ks)

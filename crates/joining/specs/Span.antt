@@ -14,8 +14,8 @@ use Rattle.rules.specs.declared.Hole.{Hole}
 use Rattle.rules.specs.declared.Heap.{Heap}
 use Rattle.rules.specs.declared.Write.{Write}
 use Rattle.rules.specs.Inner.{write, nothing, Inside, Rises, endOr}
-use Rattle.cursor.specs.Walk.{lastPlace}
-use Rattle.cursor.specs.declared.Cursor.{Cursor}
+use Rattle.walk.specs.Walk.{lastPlace}
+use Rattle.walk.specs.declared.Cursor.{Cursor}
 use Rattle.joining.specs.declared.Relinked.{Relinked}
 
 -- ---- the link

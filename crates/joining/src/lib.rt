@@ -1,6 +1,5 @@
 // The list of holes, relinked: a hole before leads to a new place, and a free span becomes a hole and
 // joins every hole that it touches. Nothing is written here: a call decides which heads are to be.
-use cursor::Cursor;
 use hole::addr_of;
 use hole::nothing;
 use hole::place_of;
@@ -13,11 +12,12 @@ use rules::NONE;
 use rules::Place;
 use rules::Write;
 use rules::Writes;
+use walk::Cursor;
 ghost use mathlib.Core.Path.{_≡_};
 ghost use Rattle.rules.specs.Sound.{holes};
 ghost use Rattle.rules.specs.Free.{freed};
 ghost use Rattle.rules.specs.Inner.{Inside, Relinks};
-ghost use Rattle.hole_list.specs.Settled.{Settled};
+ghost use Rattle.walk.specs.Settled.{Settled};
 ghost use Rattle.joining.specs.Span.{Free, MayMerge, MayEnd, mergedHead, linkedTo, endsAt};
 
 // What becomes of the list: the place of its first hole, and the heads to be written.

@@ -1,6 +1,7 @@
--- The laws that the proofs of this crate and of those above it share, by subject.
+-- The laws that the proofs of this crate share, by subject.
 
--- the rows of a report
+-- what a pass over the holes gathers; the rows that it fills
+pub mod Gathered
 pub mod Filled
--- a survey, and the reports by it
-pub mod Surveyed
+-- the reports by it
+pub mod Reported

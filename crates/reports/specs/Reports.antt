@@ -1,23 +1,26 @@
--- What the two reports on the holes lean on. Definitions only.
-use mathlib.Core.Bool.{cond}
+-- What the two reports gather of the holes. Definitions only.
+use mathlib.Core.Bool.{Bool, false, cond}
 use mathlib.Core.List.{List}
-use Prim.Native.Nat.{ℕ}
+use Prim.Native.Nat.{ℕ, _+_}
+use lib.Dec.{eqb}
 use lib.ListN.{length}
 use Rattle.rules.specs.Holes.{largest}
-use Rattle.rules.specs.Sound.{soundHoles, holes}
+use Rattle.rules.specs.Sound.{size, soundHoles}
+use Rattle.rules.specs.declared.Hole.{Hole}
 use Rattle.rules.specs.declared.Heap.{Heap}
-use Rattle.rules.specs.declared.Refusal.the-variants.{NotSound}
-use Rattle.numbers.specs.Checks.{checkedOf}
-use Rattle.numbers.specs.declared.Checked.{Checked}
-use Rattle.numbers.specs.declared.Checked.the-variants as checked
+use Rattle.walk.specs.Walk.{isEnd}
+use Rattle.walk.specs.declared.Step.{Step}
 use Rattle.reports.specs.declared.Survey.{Survey}
-use Rattle.reports.specs.declared.Survey.the-variants.{Of, No}
+use Rattle.reports.specs.declared.Survey.the-variants as survey
+use Rattle.reports.specs.declared.Count.{Count}
+use Rattle.reports.specs.declared.Count.the-variants as count
 
--- what is said of the holes, once the numbers are checked
-unfoldable pub surveyBy : Checked → Heap → List ℕ → Survey
-surveyBy (checked.No r) h m = No r
-surveyBy checked.Fair h m =
-    cond (soundHoles h (holes h m)) (Of (length (holes h m)) (largest (holes h m))) (No NotSound)
+-- a pass whose last step found no hole kept every rule, and the sum of the sizes is size − used
+unfoldable pub endsSound : Heap → Step → ℕ → Bool
+endsSound h st total = cond (isEnd st) (eqb (total + h .used) (size h)) false
 
-abbrev pub surveyOf : Heap → List ℕ → Survey
-surveyOf h m = surveyBy (checkedOf (length m) h) h m
+unfoldable pub surveyOf : Heap → List Hole → Survey
+surveyOf h ks = cond (soundHoles h ks) (survey.Of (length ks) (largest ks)) survey.Bad
+
+unfoldable pub countOf : Heap → List Hole → Count
+countOf h ks = cond (soundHoles h ks) (count.Of (length ks)) count.Bad

@@ -1,68 +1,48 @@
 // The two reports on the holes. They change neither heap nor arena.
-mod looking;
+mod filling;
+mod gathering;
 
-use cursor::Step;
-use cursor::first_floor;
-use cursor::next;
-use looking::survey;
-use rules::Addr;
+use filling::fill;
+use gathering::count_holes;
+use gathering::survey;
+use hole::arena_len;
+use numbers::Checked;
+use numbers::check;
+use numbers::fair_size;
 use rules::Answer;
 use rules::Heap;
-use rules::MIN_SIZE;
 use rules::Refusal;
 ghost use mathlib.Core.Path.{_≡_};
-ghost use Prim.Native.Nat.{min};
-ghost use Rattle.rules.specs.Sound.{holes};
 ghost use Rattle.rules.specs.Calls as Calls;
-ghost use Rattle.rules.specs.Outcome.{after, rows, inRows, rowsAfter};
-ghost use Rattle.hole_list.specs.Settled.{Settled};
+ghost use Rattle.rules.specs.Outcome.{after, rows, rowsAfter};
 
-// What 3, 4, 5 and a walk to the end say: the number of holes and the largest, or no.
+// What room gathers of the holes: their number and the largest, or that a rule is broken.
 pub enum Survey {
     Of { count: u64, largest: u64 },
-    No(Refusal),
+    Bad,
+}
+
+// What list gathers of them: their number, or that a rule is broken.
+pub enum Count {
+    Of(u64),
+    Bad,
 }
 
 // The size of the largest hole, 0 if none, and the number of holes. It tests 3, 4, 5.
 pub fn room(h: Heap, arena: &[u8]) -> Answer
     ensures { λ r. ⌜ r ≡ after Calls.room h (now (arena .entry)) .answer ⌝ }
 {
-    let found = survey(h, arena);
-    match found {
-        Survey::No(r) => Answer::Refused(r),
-        Survey::Of { count, largest } => Answer::Room {
-            largest,
-            holes: count,
-        },
+    let checked = check(h, arena_len(arena));
+    if let Checked::No(r) = checked {
+        return Answer::Refused(r);
     }
-}
-
-// The smaller of two lengths.
-fn shorter(a: usize, b: usize) -> usize
-    ensures { λ r. ⌜ r ≡ min a b ⌝ }
-{
-    if a < b { a } else { b }
-}
-
-// Addresses and sizes of the holes in order, as many as the shorter row holds.
-fn fill(h: Heap, arena: &[u8], addrs: &mut [u64], sizes: &mut [u64])
-    requires { ⌜ Settled h (now arena) ⌝ }
-    ensures { λ _. ⌜ rows (now (addrs .exit)) (now (sizes .exit)) ≡ inRows (holes h (now (arena .entry))) (rows (now (addrs .entry)) (now (sizes .entry))) ⌝ }
-{
-    let mut at = h.first;
-    let mut floor = first_floor(h);
-    let end = shorter(addrs.len(), sizes.len());
-    let mut i: usize = 0;
-    while i < end {
-        let st = next(h, arena, at, floor);
-        let Step::At(hole, after) = st else {
-            return;
-        };
-        addrs[i] = hole.addr.0;
-        sizes[i] = hole.size;
-        floor = Addr(hole.addr.0 + hole.size + MIN_SIZE);
-        at = after;
-        i += 1;
+    let found = survey(h, arena);
+    let Survey::Of { count, largest } = found else {
+        return Answer::Refused(Refusal::NotSound);
+    };
+    Answer::Room {
+        largest,
+        holes: count,
     }
 }
 
@@ -71,15 +51,17 @@ fn fill(h: Heap, arena: &[u8], addrs: &mut [u64], sizes: &mut [u64])
 pub fn list(h: Heap, arena: &[u8], addrs: &mut [u64], sizes: &mut [u64]) -> Answer
     ensures { λ r. ⌜ (r ≡ after Calls.list h (now (arena .entry)) .answer) × (rows (now (addrs .exit)) (now (sizes .exit)) ≡ rowsAfter Calls.list h (now (arena .entry)) (rows (now (addrs .entry)) (now (sizes .entry)))) ⌝ }
 {
-    let found = survey(h, arena);
-    match found {
-        Survey::No(r) => Answer::Refused(r),
-        Survey::Of { count, largest: _ } => {
-            fill(h, arena, addrs, sizes);
-            Answer::Listed {
-                holes: count,
-                free: h.top.0 - h.bottom.0 - h.used,
-            }
-        }
+    let checked = check(h, arena_len(arena));
+    if let Checked::No(r) = checked {
+        return Answer::Refused(r);
+    }
+    let found = count_holes(h, arena);
+    let Count::Of(count) = found else {
+        return Answer::Refused(Refusal::NotSound);
+    };
+    fill(h, arena, addrs, sizes);
+    Answer::Listed {
+        holes: count,
+        free: fair_size(h) - h.used,
     }
 }

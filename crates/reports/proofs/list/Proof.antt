@@ -1,54 +1,83 @@
--- `reports::list` meets its contract: what the survey says is the answer, and `fill` fills the rows. Assumes nothing.
+-- `reports::list` meets its contract: what its tests and its pass say is the answer, and `fill` fills the rows. Assumes nothing.
 use mathlib.Core.Path.{refl, sym, _∙_}
 use native.Mathlib.Omega.{arith}
 use borrow.Author.Needs.{needs}
 use Rattle.rules.specs.Calls.{list}
 use Rattle.rules.proofs.Calls.{answer-refused, answer-told, rows-refused, rows-told}
-use Rattle.reports.proofs.Surveyed.{surveyed, report-no, used-fits, list-told}
+use Rattle.numbers.proofs.Verdicts.{Tested, tested}
+use Rattle.reports.proofs.Reported.{counted, report-no, report-broken, list-told, used-fits}
 use Rattle.reports.proofs.list.Statement.{statement}
 use Rattle.reports.proofs.list.Tie as tie
 
-survey-requires : tie.Need-survey-requires
-survey-requires c κs = search needs
+-- ---- what is known once the numbers have passed
+
+abbrev start : tie.After-check → tie.Start
+start c = c .before .before .before .before .before
+
+passed : (c : tie.At-match-keys2) → Tested (start (c .before) .args .h) (start (c .before) .args .arena .now)
+passed c = tested _ _ (c .before .before .arena-len .ensures .0) (c .before .check .ensures) (c .match .keys2)
+
+-- ---- the needs
+
+arena-len-requires : tie.Need-arena-len-requires
+arena-len-requires c κs = search needs
+
+check-requires : tie.Need-check-requires
+check-requires c κs = search needs
+
+enum-known-checked : tie.Need-enum-known-checked
+enum-known-checked c = search needs
+
+returns : tie.Need-returns
+returns c =
+    let k = c .before .before .before in
+    let s = start k .args in
+    let e = report-no _ _ list refl (k .before .arena-len .ensures .0) (k .check .ensures) (c .before .checked .given .1) in
+    (sym (answer-refused list (s .h) (s .arena .now) _ e), sym (rows-refused list (s .h) (s .arena .now) _ _ e))
+
+enum-told : tie.Need-enum-told
+enum-told c = search needs
+
+count-holes-requires : tie.Need-count-holes-requires
+count-holes-requires c κs = passed (c .before) .lent
 
 enum-known-found : tie.Need-enum-known-found
 enum-known-found c = search needs
 
-enum-known-found-2 : tie.Need-enum-known-found-2
-enum-known-found-2 c = search needs
+enum-told-2 : tie.Need-enum-told-2
+enum-told-2 c = search needs
+
+returns-2 : tie.Need-returns-2
+returns-2 c =
+    let v = c .before .before in
+    let k = v .before .before in
+    let s = start (k .before) .args in
+    let e = report-broken _ _ (passed k) list refl (counted _ _ (v .count-holes .ensures) (c .enum-told2 .given .1)) in
+    (sym (answer-refused list (s .h) (s .arena .now) _ e), sym (rows-refused list (s .h) (s .arena .now) _ _ e))
 
 fill-requires : tie.Need-fill-requires
 fill-requires c κs =
     let f = c .before .before .before in
-    let a = f .before .before in
-    let s = a .before .before .before .before in
-    let y = surveyed (s .args .h) (s .args .arena .now) (a .survey .ensures) (f .found2 .given .1) in
-    let known = a .before .before .before .shared-slice-known in
-    record { ready = record { lent = y .lent; bytes = λ j. known .given j .fits }; sound = y .sound }
+    let v = f .before .before in
+    let k = v .before .before in
+    let known = k .before .before .before .before .before .shared-slice-known in
+    record {
+      ready = record { lent = passed k .lent; bytes = λ j. known .given j .fits };
+      sound = counted _ _ (v .count-holes .ensures) (f .found .given .1) .0;
+    }
 
-sub-t14 : tie.Need-sub-t14
-sub-t14 c =
-    let f = c .before .before .before .before .before .before .before .before .before in
-    let a = f .before .before in
-    let s = a .before .before .before .before in
-    let y = surveyed (s .args .h) (s .args .arena .now) (a .survey .ensures) (f .found2 .given .1) in
+fair-size-requires : tie.Need-fair-size-requires
+fair-size-requires c κs =
+    let f = passed (c .before .before .before .before .before .before .before .before .before .before .before .before) .lent .fair in
     omega arith
 
-sub-t15 : tie.Need-sub-t15
-sub-t15 c =
-    let f = c .before .before .before .before .before .before .before .before .before .before in
-    let a = f .before .before in
-    let s = a .before .before .before .before in
-    let y = surveyed (s .args .h) (s .args .arena .now) (a .survey .ensures) (f .found2 .given .1) in
-    used-fits (s .args .h) (s .args .arena .now) y
-
-returns : tie.Need-returns
-returns c =
-    let f = c .before in
-    let a = f .before .before in
-    let s = a .before .before .before .before .args in
-    let e = report-no (s .h) (s .arena .now) list refl (a .survey .ensures) (f .found .given .1) in
-    (sym (answer-refused list (s .h) (s .arena .now) _ e), sym (rows-refused list (s .h) (s .arena .now) _ _ e))
+sub-t16 : tie.Need-sub-t16
+sub-t16 c =
+    let z = c .before in
+    let f = z .before .before .before .before .before .before .before .before .before in
+    let v = f .before .before in
+    let u = used-fits _ _ (passed (v .before .before) .lent) (counted _ _ (v .count-holes .ensures) (f .found .given .1) .0) in
+    omega (arith, z .fair-size .ensures)
 
 same-length : tie.Need-same-length
 same-length c = search needs
@@ -56,27 +85,33 @@ same-length c = search needs
 same-length-2 : tie.Need-same-length-2
 same-length-2 c = search needs
 
-returns-2 : tie.Need-returns-2
-returns-2 c =
-    let f = c .before .before .before .before .before .before .before .before .before .before in
-    let a = f .before .before in
-    let s = a .before .before .before .before in
-    let y = surveyed (s .args .h) (s .args .arena .now) (a .survey .ensures) (f .found2 .given .1) in
-    let e = list-told (s .args .h) (s .args .arena .now) y in
-    let filled = c .before .before .before .before .before .before .fill .ensures in
-    (sym (answer-told list (s .args .h) (s .args .arena .now) _ _ e), filled ∙ sym (rows-told list (s .args .h) (s .args .arena .now) _ _ _ e))
+returns-3 : tie.Need-returns-3
+returns-3 c =
+    let z = c .before in
+    let filled = z .before .before .before .before .before .fill .ensures in
+    let f = z .before .before .before .before .before .before .before .before .before in
+    let v = f .before .before in
+    let k = v .before .before in
+    let s = start (k .before) .args in
+    let e = list-told _ _ (passed k) (counted _ _ (v .count-holes .ensures) (f .found .given .1)) in
+    (rw (z .fair-size .ensures) (sym (answer-told list (s .h) (s .arena .now) _ _ e)), filled ∙ sym (rows-told list (s .h) (s .arena .now) _ _ _ e))
 
 pub list-spec : {M : Type 1} → statement M
 list-spec =
     tie.close
     (tie.spec
-    survey-requires
-    enum-known-found
-    enum-known-found-2
-    fill-requires
-    sub-t14
-    sub-t15
+    arena-len-requires
+    check-requires
+    enum-known-checked
     returns
+    enum-told
+    count-holes-requires
+    enum-known-found
+    enum-told-2
+    returns-2
+    fill-requires
+    fair-size-requires
+    sub-t16
     same-length
     same-length-2
-    returns-2)
+    returns-3)

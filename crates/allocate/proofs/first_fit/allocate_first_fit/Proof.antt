@@ -4,15 +4,17 @@ use mathlib.Core.Path.{_≡_, sym, _∙_}
 use mathlib.Core.Bool.{Bool}
 use native.Mathlib.Omega.{arith}
 use borrow.Author.Needs.{needs}
-use Rattle.rules.specs.Kinds.{none}
+use Prim.Native.Nat.{_≤_}
+use Rattle.rules.specs.Fixed.{minSize}
+use Rattle.rules.specs.Holes.{end}
 use Rattle.rules.specs.Sound.{soundHoles, holes}
 use Rattle.rules.proofs.Written.{decides-sound, decides-broken}
-use Rattle.cursor.specs.Walk.{startOf}
-use Rattle.fitting.specs.FirstFit.{searchOf}
-use Rattle.fitting.specs.declared.Fit.{Fit}
-use Rattle.fitting.specs.declared.Search.the-variants as search
+use Rattle.walk.specs.Walk.{startOf}
+use Rattle.walk.specs.Walk.{searchOf}
+use Rattle.walk.specs.declared.Fit.{Fit}
+use Rattle.walk.specs.declared.Search.the-variants as search
 use Rattle.allocate.specs.Granted.{takes}
-use Rattle.allocate.proofs.Searched.{Lies, lies, goes-on, no-fit-is}
+use Rattle.allocate.proofs.Searched.{inside, asks, goes-on, no-fit-is}
 use Rattle.allocate.proofs.first_fit.allocate_first_fit.Statement.{statement}
 use Rattle.allocate.proofs.first_fit.allocate_first_fit.Tie as tie
 
@@ -25,14 +27,13 @@ abbrev fit : tie.After-found → Fit
 fit c = c .found .given .0 .0
 
 at : (c : tie.After-found)
-    → searchOf (start c .args .h) (start c .args .want) (start c .args .align) (startOf (start c .args .h)) none 0 0
-    (holes (start c .args .h) (start c .args .arena .now))
+    → searchOf (start c .args .h) (start c .args .want) (start c .args .align) (holes (start c .args .h) (start c .args .arena .now))
     ≡ search.At (fit c)
 at c = sym (c .before .before .first-fit .ensures) ∙ c .found .given .1
 
-hole-lies : (c : tie.After-found) → Lies (start c .args .h) (fit c)
-hole-lies c =
-    lies (start c .args .h) (start c .args .arena .now) (start c .args .want) (start c .args .align) (start c .pre .0 .lent .fair) (at c)
+hole-inside : (c : tie.After-found) → (minSize ≤ fit c .hole .size) × (end (fit c .hole) .0 ≤ start c .args .h .top .0)
+hole-inside c =
+    inside (start c .args .h) (start c .args .arena .now) (start c .args .want) (start c .args .align) (start c .pre .0 .lent .fair) (at c)
 
 abbrev found : tie.After-adds-up → tie.After-found
 found c = c .before .before .before .before .before .before
@@ -67,16 +68,17 @@ returns c =
     (a .first-fit .result) (c .before .match .keys2) (a .first-fit .ensures))
 
 add-t10 : tie.Need-add-t10
-add-t10 c = let l = hole-lies (c .before .before .before .before) in omega arith
+add-t10 c = let l = hole-inside (c .before .before .before .before) in omega arith
 
 add-t11 : tie.Need-add-t11
-add-t11 c = let l = hole-lies (c .before .before .before .before) in omega arith
+add-t11 c = let l = hole-inside (c .before .before .before .before) in omega arith
 
 walk-requires : tie.Need-walk-requires
 walk-requires c κs =
     let g = c .before .before .before .before in
-    let l = hole-lies g in
-    (start g .pre .0 .lent, omega arith, omega arith)
+    let s = start g in
+    let a = asks (s .args .h) (s .args .arena .now) (s .args .want) (s .args .align) (s .pre .0 .lent .fair) (at g) in
+    (s .pre .0 .lent, a .0, a .1)
 
 adds-up-requires : tie.Need-adds-up-requires
 adds-up-requires c κs = search needs

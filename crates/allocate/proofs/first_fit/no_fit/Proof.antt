@@ -17,8 +17,8 @@ returns c =
     let s = c .before .before in
     rw (not-full (s .args .h) (s .args .found) (c .before .match .keys2)) (c .refuse .ensures)
 
-sums-up-requires : tie.Need-sums-up-requires
-sums-up-requires c κs = search needs
+is-all-free-requires : tie.Need-is-all-free-requires
+is-all-free-requires c κs = search needs
 
 refuse-requires-2 : tie.Need-refuse-requires-2
 refuse-requires-2 c κs = search needs
@@ -27,7 +27,7 @@ returns-2 : tie.Need-returns-2
 unfolding noFit
 returns-2 c =
     let s = c .before .before in
-    rw (s .before .before .found .given .1, sym (s .sums-up .ensures) ∙ c .before .if1 .taken) (c .refuse2 .ensures)
+    rw (s .before .before .found .given .1, sym (s .is-all-free .ensures) ∙ c .before .if1 .taken) (c .refuse2 .ensures)
 
 refuse-requires-3 : tie.Need-refuse-requires-3
 refuse-requires-3 c κs = search needs
@@ -36,7 +36,7 @@ returns-3 : tie.Need-returns-3
 unfolding noFit
 returns-3 c =
     let s = c .before .before in
-    rw (s .before .before .found .given .1, sym (s .sums-up .ensures) ∙ c .before .if1 .left) (c .refuse3 .ensures)
+    rw (s .before .before .found .given .1, sym (s .is-all-free .ensures) ∙ c .before .if1 .left) (c .refuse3 .ensures)
 
 pub no-fit-spec : {M : Type 1} → statement M
 no-fit-spec =
@@ -45,7 +45,7 @@ no-fit-spec =
     enum-known-found
     refuse-requires
     returns
-    sums-up-requires
+    is-all-free-requires
     refuse-requires-2
     returns-2
     refuse-requires-3

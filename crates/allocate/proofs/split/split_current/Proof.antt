@@ -6,16 +6,15 @@ use borrow.Author.Needs.{needs}
 use lib.ListN.{length}
 use Rattle.rules.specs.Kinds.{none}
 use Rattle.rules.specs.Sound.{holes}
-use Rattle.cursor.specs.Walk.{startOf}
-use Rattle.fitting.proofs.ToFit.{Fits}
+use Rattle.walk.specs.Walk.{startOf}
+use Rattle.walk.proofs.ToFit.{Fits}
 use Rattle.allocate.proofs.Pieces.{found, Room, room, split-is}
 use Rattle.allocate.proofs.split.split_current.Statement.{statement}
 use Rattle.allocate.proofs.split.split_current.Tie as tie
 
 -- ---- what is known from the start, and once the block's address is known
 
-fits : (s : tie.Start) → Fits (s .args .h) (s .args .want) (s .args .align) (startOf (s .args .h)) none 0 0
-    (holes (s .args .h) (s .args .arena .now)) (s .args .fit)
+fits : (s : tie.Start) → Fits (s .args .h) (s .args .want) (s .args .align) (holes (s .args .h) (s .args .arena .now)) (s .args .fit)
 fits s = found (s .args .h) (s .args .arena .now) (s .args .want) (s .args .align) (s .pre .2)
 
 bounds : (s : tie.Start) → Room (s .args .h) (length (s .args .arena .now)) (s .args .want) (s .args .align) (s .args .fit)

@@ -8,7 +8,7 @@ use borrow.Author.Tests.{not-true, not-false}
 use Rattle.rules.specs.Sound.{soundHoles, holes}
 use Rattle.rules.specs.Inner.{extending}
 use Rattle.rules.proofs.Written.{decides-broken}
-use Rattle.spotting.specs.declared.Near.{Near}
+use Rattle.walk.specs.declared.Near.{Near}
 use Rattle.joining.proofs.Neighbours.{near-broken, Sought, seeks}
 use Rattle.extend.proofs.Extending.{top-sound, top-free, Fits, past-is, gathers-is, grows-is}
 use Rattle.extend.proofs.growth.extend_top.Statement.{statement}
@@ -16,22 +16,22 @@ use Rattle.extend.proofs.growth.extend_top.Tie as tie
 
 -- ---- what is known once the search has passed every hole, once the sum is right, and once the bytes are there
 
-abbrev start : tie.After-sums-up → tie.Start
+abbrev start : tie.After-is-all-free → tie.Start
 start c = c .before .before .before .before .before .before .before
 
-abbrev near : tie.After-sums-up → Near
+abbrev near : tie.After-is-all-free → Near
 near c = c .before .before .spot .given .0 .0
 
-sought : (c : tie.After-sums-up) → Sought (start c .args .h) (start c .args .arena .now) (start c .args .h .top) (near c)
+sought : (c : tie.After-is-all-free) → Sought (start c .args .h) (start c .args .arena .now) (start c .args .h .top) (near c)
 sought c =
     let p = c .before .before in
     seeks (start c .pre .lent .fair) (p .before .before .neighbours .ensures) (p .spot .given .1)
 
-abbrev Sound : tie.After-sums-up → Bool
+abbrev Sound : tie.After-is-all-free → Bool
 Sound c = soundHoles (start c .args .h) (holes (start c .args .h) (start c .args .arena .now))
 
-decided : (c : tie.After-sums-up) → Sound c ≡ c .sums-up .result
-decided c = top-sound (sought c) ∙ sym (c .sums-up .ensures)
+decided : (c : tie.After-is-all-free) → Sound c ≡ c .is-all-free .result
+decided c = top-sound (sought c) ∙ sym (c .is-all-free .ensures)
 
 sound : (c : tie.Else1) → Sound (c .before) ≡ true
 sound c = decided (c .before) ∙ not-false _ (c .if1 .left)
@@ -73,8 +73,8 @@ returns c =
     (decides-broken h m (holes h m) (extending (s .args .by) h (holes h m))
     (near-broken h m (h .top) (s .pre .lent .fair) (n .neighbours .ensures) (t .enum-told .given .1)))
 
-sums-up-requires : tie.Need-sums-up-requires
-sums-up-requires c κs = search needs
+is-all-free-requires : tie.Need-is-all-free-requires
+is-all-free-requires c κs = search needs
 
 refuse-requires-2 : tie.Need-refuse-requires-2
 refuse-requires-2 c κs = search needs
@@ -151,7 +151,7 @@ extend-top-spec =
     enum-told
     refuse-requires
     returns
-    sums-up-requires
+    is-all-free-requires
     refuse-requires-2
     returns-2
     add-room

@@ -7,7 +7,7 @@ use borrow.Author.Tests.{not-true, not-false}
 use Rattle.rules.specs.Holes.{hole}
 use Rattle.rules.specs.Sound.{soundHoles, holes}
 use Rattle.rules.proofs.Written.{decides-broken}
-use Rattle.spotting.specs.declared.Near.{Near}
+use Rattle.walk.specs.declared.Near.{Near}
 use Rattle.free.specs.SpanTests.{mayFree, frees}
 use Rattle.joining.proofs.Neighbours.{near-broken, Sought, seeks, starts, goes-on}
 use Rattle.free.proofs.Freeing.{Known, span-around, span-refused, span-free, span-used, span-freed}

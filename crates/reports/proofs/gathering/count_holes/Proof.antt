@@ -1,0 +1,97 @@
+-- `reports::gathering::count_holes` meets its contract: at each turn sum and count are those of the holes passed. Assumes nothing.
+use mathlib.Core.Path.{refl, sym, _∙_}
+use mathlib.Core.List.{List, []}
+use Prim.Native.Nat.{_+_, _-_}
+use native.Mathlib.Omega.{arith}
+use borrow.Author.Needs.{needs}
+use Rattle.rules.specs.Fixed.{minSize}
+use Rattle.rules.specs.declared.Hole.{Hole}
+use Rattle.walk.specs.Walk.{never}
+use Rattle.walk.proofs.Turn.{turn-bounds}
+use Rattle.walk.proofs.Gathered.{Counting, counts, counts-on}
+use Rattle.reports.proofs.Gathered.{counted, count-broken}
+use Rattle.reports.proofs.gathering.count_holes.Statement.{statement}
+use Rattle.reports.proofs.gathering.count_holes.Tie as tie
+
+abbrev Inv-loop : tie.InvT-loop
+Inv-loop h arena at₀ floor₀ total₀ count₀ at floor total count = (front : List Hole) × Counting never h arena at floor total count front
+
+abbrev μ-loop : tie.MeasureT-loop
+μ-loop h arena at₀ floor₀ total₀ count₀ at floor total count = h .top .0 + minSize - floor .0
+
+first-floor-requires : tie.Need-first-floor-requires Inv-loop μ-loop
+first-floor-requires c κs = search needs
+
+loop-holds : tie.Need-loop-holds Inv-loop μ-loop
+loop-holds c =
+    let s = c .before .before .before in
+    rw (c .first-floor .ensures) ([], counts never (s .args .h) (s .args .arena .now) (s .pre .fair))
+
+next-requires : tie.Need-next-requires Inv-loop μ-loop
+next-requires c κs = search needs
+
+enum-known-st : tie.Need-enum-known-st Inv-loop μ-loop
+enum-known-st c = search needs
+
+ends-sound-requires : tie.Need-ends-sound-requires Inv-loop μ-loop
+ends-sound-requires c κs = search needs
+
+returns : tie.Need-returns Inv-loop μ-loop
+returns c =
+    let t = c .before .before .before in
+    counted (t .before .loop .inv .1) (t .next .ensures) (c .before .before .match .keys2) (sym (c .before .ends-sound .ensures) ∙ c .if1 .taken)
+
+returns-2 : tie.Need-returns-2 Inv-loop μ-loop
+returns-2 c =
+    let t = c .before .before .before in
+    count-broken (t .before .loop .inv .1) (t .next .ensures) (c .before .before .match .keys2) (sym (c .before .ends-sound .ensures) ∙ c .if1 .left)
+
+add-total : tie.Need-add-total Inv-loop μ-loop
+add-total c =
+    let s = c .before .before in
+    let t = s .before .before in
+    omega (arith, turn-bounds (t .before .loop .inv .1 .gone) (t .next .ensures) (s .st .given .1))
+
+add-count : tie.Need-add-count Inv-loop μ-loop
+add-count c =
+    let s = c .before .before in
+    let t = s .before .before in
+    omega (arith, turn-bounds (t .before .loop .inv .1 .gone) (t .next .ensures) (s .st .given .1))
+
+behind-requires : tie.Need-behind-requires Inv-loop μ-loop
+behind-requires c κs =
+    let s = c .before .before in
+    let t = s .before .before in
+    omega (arith, turn-bounds (t .before .loop .inv .1 .gone) (t .next .ensures) (s .st .given .1))
+
+loop-less : tie.Need-loop-less Inv-loop μ-loop
+loop-less c =
+    let s = c .before .before .before in
+    let t = s .before .before in
+    let b = turn-bounds (t .before .loop .inv .1 .gone) (t .next .ensures) (s .st .given .1) in
+    rw (c .behind .ensures) (omega arith)
+
+loop-again : tie.Need-loop-again Inv-loop μ-loop
+loop-again c =
+    let s = c .before .before .before in
+    let t = s .before .before in
+    rw (c .behind .ensures) (_, counts-on _ _ _ (t .before .loop .inv .1) (t .next .ensures) (s .st .given .1) refl)
+
+pub count-holes-spec : {M : Type 1} → statement M
+count-holes-spec =
+    tie.close
+    (tie.spec
+    Inv-loop
+    μ-loop
+    first-floor-requires
+    loop-holds
+    next-requires
+    enum-known-st
+    ends-sound-requires
+    returns
+    returns-2
+    add-total
+    add-count
+    behind-requires
+    loop-less
+    loop-again)

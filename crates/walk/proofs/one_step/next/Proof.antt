@@ -1,0 +1,114 @@
+-- `walk::one_step::next` meets its contract: each test that returns is a rule that the head breaks. Assumes nothing.
+use mathlib.Core.Path.{_≡_, refl, ap, _∙_}
+use Prim.Native.Nat.{_+_, _≤_}
+use native.Mathlib.Omega.{arith}
+use borrow.Author.Needs.{needs}
+use Rattle.rules.specs.Fixed.{minSize}
+use Rattle.rules.specs.Holes.{hole, headAt}
+use Rattle.rules.specs.declared.Addr.{Addr}
+use Rattle.rules.specs.declared.Place.{Place}
+use Rattle.rules.specs.declared.Hole.{Hole}
+use Rattle.rules.proofs.Walk.{Keeps}
+use Rattle.walk.specs.declared.Step.{Step}
+use Rattle.walk.specs.declared.Step.the-variants as step
+use Rattle.walk.specs.Walk.{stepOf}
+use Rattle.walk.proofs.OneStep.{ended, kept, broken, both-eight, eight-both}
+use Rattle.walk.proofs.one_step.next.Statement.{statement}
+use Rattle.walk.proofs.one_step.next.Tie as tie
+
+-- ---- what is known once the place is within reach, and once its head is read
+
+abbrev start : tie.After-struct-known2 → tie.Start
+start c = c .before .before .before .before .before .before
+
+reaches : (c : tie.Else1) → start (c .before) .args .h .base .0 + start (c .before) .args .at .0 + minSize ≤ start (c .before) .args .h .top .0
+reaches c =
+    let place = ap (λ (p : Place). p .0) (c .before .before .before .place-of .ensures) in
+    let f = start (c .before) .pre .fair in
+    omega (arith, c .if1 .left)
+
+abbrev asked : tie.After-addr-of → tie.Start
+asked c = start (c .before .before .before)
+
+abbrev found : tie.After-addr-of → Hole
+found c = hole (c .addr-of .result) (c .before .read-head .result .size)
+
+abbrev Answers : tie.After-addr-of → Step → Type 0
+Answers c s = s ≡ stepOf (asked c .args .h) (asked c .args .arena .now) (asked c .args .at) (asked c .args .floor)
+
+breaks : (c : tie.After-addr-of) → (Keeps (asked c .args .h) (asked c .args .floor) (found c) → ⊥) → Answers c step.Bad
+breaks c n =
+    let r = reaches (c .before .before) in
+    broken _ _ _ _ (λ e. omega (arith, e)) (c .addr-of .ensures) (c .before .read-head .ensures) n
+
+-- ---- the needs
+
+place-of-requires : tie.Need-place-of-requires
+place-of-requires c κs = search needs
+
+sub-if1 : tie.Need-sub-if1
+sub-if1 c =
+    let place = ap (λ (p : Place). p .0) (c .before .place-of .ensures) in
+    omega arith
+
+last-requires : tie.Need-last-requires
+last-requires c κs = search needs
+
+returns : tie.Need-returns
+returns c = c .last .ensures ∙ ended _ _ _ _ (c .before .if2 .taken)
+
+returns-2 : tie.Need-returns-2
+returns-2 c =
+    let place = ap (λ (p : Place). p .0) (c .before .before .before .before .before .place-of .ensures) in
+    broken _ _ _ _ (c .if2 .left) refl refl (λ r. omega arith)
+
+read-head-requires : tie.Need-read-head-requires
+read-head-requires c κs = let r = reaches c in omega (arith, start (c .before) .pre .lent)
+
+addr-of-requires : tie.Need-addr-of-requires
+addr-of-requires c κs = let r = reaches (c .before) in omega (arith, start (c .before .before) .pre .fair .low)
+
+returns-3 : tie.Need-returns-3
+returns-3 c = breaks (c .before .before .before) (λ r. omega arith)
+
+returns-4 : tie.Need-returns-4
+returns-4 c = breaks (c .before .before .before .before .before) (λ r. c .if4 .taken (eight-both _ _ (r .addr8) (r .size8)))
+
+returns-5 : tie.Need-returns-5
+returns-5 c = breaks (c .before .before .before .before .before .before) (λ r. omega arith)
+
+sub-if6 : tie.Need-sub-if6
+sub-if6 c =
+    let a = c .before .before .before .before .before .before .before .before in
+    let r = reaches (a .before .before) in
+    let e = ap (λ (x : Addr). x .0) (a .addr-of .ensures) in
+    omega arith
+
+returns-6 : tie.Need-returns-6
+returns-6 c = breaks (c .before .before .before .before .before .before .before .before .before) (λ r. omega arith)
+
+returns-7 : tie.Need-returns-7
+returns-7 c =
+    let e4 = c .before .before .before .before .before in
+    let a = e4 .before .before .before .before .before in
+    let r = reaches (a .before .before) in
+    let eights = both-eight (a .addr-of .result .0) (a .before .read-head .result .size) (e4 .if4 .left) in
+    kept _ _ _ _ (λ e. omega (arith, e)) (a .addr-of .ensures) (a .before .read-head .ensures) (omega arith)
+
+pub next-spec : {M : Type 1} → statement M
+next-spec =
+    tie.close
+    (tie.spec
+    place-of-requires
+    sub-if1
+    last-requires
+    returns
+    returns-2
+    read-head-requires
+    addr-of-requires
+    returns-3
+    returns-4
+    returns-5
+    sub-if6
+    returns-6
+    returns-7)

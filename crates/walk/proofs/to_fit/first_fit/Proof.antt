@@ -1,0 +1,117 @@
+-- `walk::to_fit::first_fit` meets its contract: at each turn cursor, sum and count are those of the holes passed, and the floor rises.
+-- Assumes nothing.
+use mathlib.Core.Path.{sym, _∙_}
+use Prim.Native.Nat.{_+_, _-_}
+use native.Mathlib.Omega.{arith}
+use borrow.Author.Needs.{needs}
+use Rattle.rules.specs.Fixed.{minSize}
+use Rattle.rules.specs.Allocate.{suits}
+use Rattle.walk.proofs.Turn.{turn-bounds}
+use Rattle.walk.proofs.Gathered.{Seeking, seeks, seeks-on}
+use Rattle.walk.proofs.ToFit.{search-found, search-ended, search-broken}
+use Rattle.walk.proofs.to_fit.first_fit.Statement.{statement}
+use Rattle.walk.proofs.to_fit.first_fit.Tie as tie
+
+abbrev Inv-loop : tie.InvT-loop
+Inv-loop h arena want align cursor₀ floor₀ total₀ count₀ cursor floor total count = Seeking (suits want align) h arena cursor floor total count
+
+abbrev μ-loop : tie.MeasureT-loop
+μ-loop h arena want align cursor₀ floor₀ total₀ count₀ cursor floor total count = h .top .0 + minSize - floor .0
+
+first-floor-requires : tie.Need-first-floor-requires Inv-loop μ-loop
+first-floor-requires c κs = search needs
+
+loop-holds : tie.Need-loop-holds Inv-loop μ-loop
+loop-holds c =
+    let s = c .before .before .before in
+    rw (c .first-floor .ensures) (seeks (suits (s .args .want) (s .args .align)) (s .args .h) (s .args .arena .now) (s .pre .0 .fair))
+
+next-requires : tie.Need-next-requires Inv-loop μ-loop
+next-requires c κs = search needs
+
+enum-known-st : tie.Need-enum-known-st Inv-loop μ-loop
+enum-known-st c = search needs
+
+is-end-requires : tie.Need-is-end-requires Inv-loop μ-loop
+is-end-requires c κs = search needs
+
+returns : tie.Need-returns Inv-loop μ-loop
+returns c =
+    let t = c .before .before .before in
+    let l = t .before .before in
+    search-ended _ _ (l .loop .inv) (t .next .ensures) (sym (c .before .is-end .ensures) ∙ c .if1 .taken)
+
+returns-2 : tie.Need-returns-2 Inv-loop μ-loop
+returns-2 c =
+    let t = c .before .before .before in
+    let l = t .before .before in
+    search-broken _ _ (l .loop .inv) (t .next .ensures)
+    (c .before .before .match .keys2) (sym (c .before .is-end .ensures) ∙ c .if1 .left)
+
+add-total : tie.Need-add-total Inv-loop μ-loop
+add-total c =
+    let s = c .before .before in
+    let t = s .before .before in
+    omega (arith, turn-bounds (t .before .before .loop .inv .counting .gone) (t .next .ensures) (s .st .given .1))
+
+add-count : tie.Need-add-count Inv-loop μ-loop
+add-count c =
+    let s = c .before .before in
+    let t = s .before .before in
+    omega (arith, turn-bounds (t .before .before .loop .inv .counting .gone) (t .next .ensures) (s .st .given .1))
+
+suits-requires : tie.Need-suits-requires Inv-loop μ-loop
+suits-requires c κs =
+    let s = c .before .before in
+    let t = s .before .before in
+    let b = turn-bounds (t .before .before .loop .inv .counting .gone) (t .next .ensures) (s .st .given .1) in
+    (search needs, omega arith, b .least)
+
+behind-requires : tie.Need-behind-requires Inv-loop μ-loop
+behind-requires c κs =
+    let s = c .before .before .before .before in
+    let t = s .before .before in
+    omega (arith, turn-bounds (t .before .before .loop .inv .counting .gone) (t .next .ensures) (s .st .given .1))
+
+loop-less : tie.Need-loop-less Inv-loop μ-loop
+loop-less c =
+    let s = c .before .before .before .before .before in
+    let t = s .before .before in
+    let b = turn-bounds (t .before .before .loop .inv .counting .gone) (t .next .ensures) (s .st .given .1) in
+    rw (c .behind .ensures) (omega arith)
+
+loop-again : tie.Need-loop-again Inv-loop μ-loop
+loop-again c =
+    let s = c .before .before .before .before .before in
+    let t = s .before .before in
+    rw (c .behind .ensures)
+    (seeks-on _ _ _ (t .before .before .loop .inv) (t .next .ensures) (s .st .given .1) (sym (c .before .before .suits .ensures) ∙ c .before .if2 .left))
+
+returns-3 : tie.Need-returns-3 Inv-loop μ-loop
+returns-3 c =
+    let s = c .before .before .before .before in
+    let t = s .before .before in
+    let l = t .before .before in
+    search-found _ _ (l .loop .inv) (t .next .ensures) (s .st .given .1)
+    (sym (c .before .suits .ensures) ∙ c .if2 .taken)
+
+pub first-fit-spec : {M : Type 1} → statement M
+first-fit-spec =
+    tie.close
+    (tie.spec
+    Inv-loop
+    μ-loop
+    first-floor-requires
+    loop-holds
+    next-requires
+    enum-known-st
+    is-end-requires
+    returns
+    returns-2
+    add-total
+    add-count
+    suits-requires
+    behind-requires
+    loop-less
+    loop-again
+    returns-3)
