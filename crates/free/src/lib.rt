@@ -3,19 +3,14 @@ mod deallocation;
 mod span;
 
 use deallocation::deallocate;
-use hole::arena_len;
 use hole::refuse;
 use hole::write;
-use hole_list::refuse_if_sound;
-use layout::align_layout;
-use numbers::Checked;
-use numbers::check;
+use request::Request;
+use request::check;
 use rules::Addr;
 use rules::Decided;
 use rules::Done;
 use rules::Heap;
-use rules::Layout;
-use rules::Refusal;
 ghost use Rattle.rules.specs.Calls as Calls;
 ghost use Rattle.rules.specs.Outcome.{Is, after};
 ghost use Rattle.rules.specs.Inner.{Decides};
@@ -24,15 +19,11 @@ ghost use Rattle.rules.specs.Inner.{Decides};
 pub fn decide(h: Heap, arena: &[u8], addr: Addr, size: u64, align: u64) -> Decided
     ensures { λ d. ⌜ Decides (after (Calls.free addr size align) h (now (arena .entry))) (now (arena .entry)) d ⌝ }
 {
-    let checked = check(h, arena_len(arena));
-    if let Checked::No(r) = checked {
-        return refuse(h, r);
+    let asked = check(h, arena, size, align);
+    match asked {
+        Request::No(r) => refuse(h, r),
+        Request::Of(want) => deallocate(h, arena, addr, want, align),
     }
-    let layout = align_layout(size, align);
-    let Layout::Rounded(want) = layout else {
-        return refuse_if_sound(h, arena, Refusal::BadLayout);
-    };
-    deallocate(h, arena, addr, want, align)
 }
 
 // Takes a block back, named by its address, size and alignment. It tests 3, 4, 5, 6, 8.

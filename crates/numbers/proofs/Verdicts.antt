@@ -72,9 +72,9 @@ refuses-call c h m later {r} v =
 -- ---- as a call parts the two by an `if let`
 
 -- what is not no lets the call go on
-fair-is : (v : Checked) → OneOf (0 ∷ []) (tagOf Verdict.the-type v) → v ≡ Fair
-fair-is Fair o = refl
-fair-is (No r) o = absurd (omega arith)
+pub tested-fair : (v : Checked) → OneOf (0 ∷ []) (tagOf Verdict.the-type v) → v ≡ Fair
+tested-fair Fair o = refl
+tested-fair (No r) o = absurd (omega arith)
 
 -- the numbers keep their rules, and the arena has the length that they say
 pub record Tested (h : Heap) (m : List ℕ) : Type 0 where
@@ -84,7 +84,7 @@ pub record Tested (h : Heap) (m : List ℕ) : Type 0 where
 module _ {v : Checked} {len : ℕ} (h : Heap) (m : List ℕ) (lent : len ≡ length m) (said : v ≡ checkedOf len h) where
   pub tested : OneOf (0 ∷ []) (tagOf Verdict.the-type v) → Tested h m
   tested o =
-      let p = passes len h (sym said ∙ fair-is v o) in
+      let p = passes len h (sym said ∙ tested-fair v o) in
       record { lent = record { fair = sound-fair h (p .1); lent = sym lent ∙ p .0 }; numbers = p .1 }
 
   -- the call refuses

@@ -22,8 +22,9 @@ use Rattle.rules.specs.Kinds.{raised}
 use Rattle.rules.specs.Holes.{largest}
 use Rattle.rules.specs.Sound.{size, soundNumbers, soundHoles, holes}
 use Rattle.rules.specs.Allocate.{find}
-use Rattle.rules.specs.Calls.{Call, opening, allocate, free, extend, list, room, Outcome, refused, told, done, onlyHole, opened, taken, accepted}
-use Rattle.rules.specs.Refusals.{refusal1, layoutOf, openedTests, tests, unless}
+use Rattle.rules.specs.Changes.{Change}
+use Rattle.rules.specs.Calls.{Call, opening, change, allocate, free, extend, list, room, Outcome, refused, told, done, onlyHole, opened, taken, accepted}
+use Rattle.rules.specs.Refusals.{Test, test, refusal1, refusal6, layoutOf, openedTests, changeTests, tests, unless}
 use Rattle.rules.specs.Outcome.{decided, outcome, leaves, after, Is, Rows, inRows, leavesRows, rowsAfter}
 use Rattle.rules.specs.Inner.{sifted, freeing, extending}
 use Rattle.rules.proofs.Cases.{cases}
@@ -95,10 +96,11 @@ module _ (c : Call) (h : Heap) (m : List ℕ) (later : Opens c ≡ false) where
 -- ---- call by call
 
 module _ (h : Heap) (m : List ℕ) (lent : length m ≡ h .len) (fair : soundNumbers h ≡ true) where
-  pub allocate-6 : (s align : ℕ) → layoutOf s align ≡ Bad → outcome (allocate s align) h m ≡ sifted h (holes h m) (refused BadLayout)
+  -- a change whose first test behind 5 is 6
+  pub layout-6 : (c : Change) {ts : List Test} (s align : ℕ) → changeTests c h (holes h m) ≡ test BadLayout (refusal6 s align) ∷ ts
+      → layoutOf s align ≡ Bad → outcome (change c) h m ≡ sifted h (holes h m) (refused BadLayout)
   unfolding unless
-  allocate-6 s align e =
-      outcome-fair (allocate s align) h m refl lent fair ∙ rw (layout-refused s align e)
+  layout-6 c s align e b = outcome-fair (change c) h m refl lent fair ∙ rw (e, layout-refused s align b)
 
   pub allocate-on : (s align : ℕ) {w : ℕ} → layoutOf s align ≡ Rounded w
       → outcome (allocate s align) h m ≡ sifted h (holes h m) (taken w align h (holes h m) (find w align (holes h m)))
@@ -106,11 +108,6 @@ module _ (h : Heap) (m : List ℕ) (lent : length m ≡ h .len) (fair : soundNum
   allocate-on s align e =
       let l = layout-granted s align e in
       outcome-fair (allocate s align) h m refl lent fair ∙ rw (l .0, l .1)
-
-  pub free-6 : (a : Addr) (s align : ℕ) → layoutOf s align ≡ Bad → outcome (free a s align) h m ≡ sifted h (holes h m) (refused BadLayout)
-  unfolding unless
-  free-6 a s align e =
-      outcome-fair (free a s align) h m refl lent fair ∙ rw (layout-refused s align e)
 
   pub free-on : (a : Addr) (s align : ℕ) {w : ℕ} → layoutOf s align ≡ Rounded w
       → outcome (free a s align) h m ≡ sifted h (holes h m) (freeing w a align h (holes h m))

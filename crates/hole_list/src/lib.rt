@@ -1,4 +1,0 @@
-// Refusal 5 as far as the holes earn it.
-mod sums;
-
-pub use sums::refuse_if_sound;
