@@ -1,7 +1,7 @@
 -- The hole that an allocation found, used and split: the few heads to be written are those of the new list. Assumes nothing.
-use mathlib.Core.Path.{_≡_, refl, sym, ap, _∙_}
-use mathlib.Core.Bool.{true, false, cond}
-use mathlib.Core.List.{List, [], _∷_, _++_}
+use mathlib.Core.Path.{_≡_, refl, sym, _∙_}
+use mathlib.Core.Bool.{false}
+use mathlib.Core.List.{List, _∷_, _++_}
 use Prim.Native.Nat.{ℕ, _+_, _-_, _≤_, _<_}
 use native.Mathlib.Omega.{arith}
 use lib.ListN.{length}
@@ -10,7 +10,7 @@ use Rattle.rules.specs.Fixed.{minSize, addrLimit}
 use Rattle.rules.specs.Kinds.{placeOf, plus, bytesTo, none, isNone}
 use Rattle.rules.specs.Holes.{hole, end, firstOf}
 use Rattle.rules.specs.Sound.{holes}
-use Rattle.rules.specs.Allocate.{candidate, suits, find, remains, split}
+use Rattle.rules.specs.Allocate.{candidate, suits, remains, split}
 use Rattle.rules.specs.Calls.{taken}
 use Rattle.rules.specs.declared.Addr.{Addr}
 use Rattle.rules.specs.declared.Place.{Place}
@@ -18,16 +18,15 @@ use Rattle.rules.specs.declared.Hole.{Hole}
 use Rattle.rules.specs.declared.Heap.{Heap}
 use Rattle.rules.specs.declared.Write.{Write}
 use Rattle.rules.specs.declared.Answer.the-variants.{Allocated}
-use Rattle.rules.specs.Inner.{firstOr, putHeadsTo, put, write, nothing, written, Inside, Leaves, Decides, Fair, Rises, endOr}
+use Rattle.rules.specs.Inner.{firstOr, putHeadsTo, put, write, nothing, written, Inside, Decides, Rises, endOr}
 use Rattle.rules.proofs.Cases.{by-eq}
 use Rattle.rules.proofs.Powers.{power-pos}
 use Rattle.rules.proofs.Rises.{rises-le, rises-front, rises-back}
-use Rattle.rules.proofs.Lists.{Holds, holds-split}
-use Rattle.rules.proofs.Relink.{put-append, put-one}
+use Rattle.rules.proofs.Lists.{holds-split}
+use Rattle.rules.proofs.Relink.{put-append}
 use Rattle.rules.proofs.Used.{candidate-low, suits-fits, suits-leaves, used-rises, find-total}
-use Rattle.rules.proofs.Written.{put-some, decides-changed}
+use Rattle.rules.proofs.Written.{decides-changed}
 use Rattle.walk.specs.Settled.{Asked}
-use Rattle.walk.specs.Walk.{startOf, lastPlace}
 use Rattle.walk.specs.Walk.{searchOf}
 use Rattle.walk.specs.declared.Fit.{Fit}
 use Rattle.walk.specs.declared.Search.the-variants as search

@@ -1,47 +1,36 @@
 -- The search that an allocation begins with: the hole that it found, the walk that goes on behind it, and the refusal where no hole suits.
 -- Assumes nothing.
-use mathlib.Core.Path.{_≡_, refl, sym, ap, _∙_}
+use mathlib.Core.Path.{_≡_, refl, sym}
 use mathlib.Core.Logic.{inl, inr}
-use mathlib.Core.List.{List, [], _∷_, _++_, append-assoc}
-use Prim.Native.Nat.{ℕ, suc, _+_, _*_, _≤_}
+use mathlib.Core.List.{List, [], _∷_, _++_}
+use Prim.Native.Nat.{ℕ, _+_, _≤_}
 use native.Mathlib.Omega.{arith}
 use lib.Dec.{eqb}
-use lib.ListN.{length, length-append}
+use lib.ListN.{length}
 use denote.Enum.Declared.{tagOf}
 use types.Run.{OneOf}
 use Rattle.rules.specs.Fixed.{minSize}
-use Rattle.rules.specs.Tests.{all}
-use Rattle.rules.specs.Kinds.{placeOf, none}
+use Rattle.rules.specs.Kinds.{none}
 use Rattle.rules.specs.Holes as Holes
 use Rattle.rules.specs.Holes.{end, holesFrom}
-use Rattle.rules.specs.Sound.{size, soundHoles, most, holes}
-use Rattle.rules.specs.Allocate as Allocate
+use Rattle.rules.specs.Sound.{size, soundHoles, holes}
 use Rattle.rules.specs.Calls.{taken}
-use Rattle.rules.specs.declared.Addr.{Addr}
-use Rattle.rules.specs.declared.Place.{Place}
-use Rattle.rules.specs.declared.Hole.{Hole}
 use Rattle.rules.specs.declared.Heap.{Heap}
 use Rattle.rules.specs.declared.Refusal.the-variants.{NotSound, NoRoom}
-use Rattle.rules.specs.Inner.{Fair, headRules, behind, ends, refusing, Decides}
-use Rattle.rules.proofs.Cases.{cases, by-test}
-use Rattle.rules.proofs.Walk.{rules-keep}
-use Rattle.rules.proofs.Totals.{total-append}
-use Rattle.walk.specs.Walk.{Enough, startOf, lastOf, walkedOf}
+use Rattle.rules.specs.Inner.{Fair, behind, refusing, Decides}
+use Rattle.rules.proofs.Cases.{cases}
+use Rattle.walk.specs.Walk.{Enough, walkedOf}
 use Rattle.walk.specs.Walk.{searchOf}
 use Rattle.walk.specs.declared.Fit.{Fit}
-use Rattle.walk.specs.declared.Step.the-variants as step
 use Rattle.walk.specs.declared.Walked.{Walked}
 use Rattle.walk.specs.declared.Search.{Search}
 use Rattle.walk.specs.declared.Search.the-variants as search
 use Rattle.walk.proofs.Search as Searches
-use Rattle.walk.proofs.Turn.{start}
 use Rattle.walk.proofs.ToFit.{Fits, fit-at, fit-bad, fit-nowhere, fit-reached}
 use Rattle.walk.specs.Walk.{addsUp}
 use Rattle.allocate.specs.Granted.{noFit, takes, grantedIfSound}
-use Rattle.walk.proofs.AddsUp.{by-walk, Reached, onward-asks, onward-decides}
-use Rattle.walk.proofs.Rest.{rest}
+use Rattle.walk.proofs.ToEnd.{by-walk, Reached, onward-asks, onward-decides}
 use Rattle.rules.proofs.Written.{decides-refused, decides-sound, decides-broken}
-use Rattle.allocate.proofs.Pieces.{found}
 
 -- ---- the hole found
 

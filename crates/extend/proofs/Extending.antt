@@ -7,23 +7,21 @@ use native.Mathlib.Omega.{arith}
 use lib.Dec.{eqb}
 use borrow.Author.Tests.{le-ltb, lt-ltb}
 use Rattle.rules.specs.Fixed.{minSize, grain}
-use Rattle.rules.specs.Tests.{all}
 use Rattle.rules.specs.Round.{downTo}
-use Rattle.rules.specs.Kinds.{placeOf, plus, none}
+use Rattle.rules.specs.Kinds.{plus, none}
 use Rattle.rules.specs.Holes as Holes
 use Rattle.rules.specs.Holes.{hole, firstOf}
 use Rattle.rules.specs.Sound.{size, soundHoles, holes}
 use Rattle.rules.specs.Free.{freed}
 use Rattle.rules.specs.Calls.{grown, gathered, extended}
 use Rattle.rules.specs.declared.Addr.{Addr}
-use Rattle.rules.specs.declared.Place.{Place}
 use Rattle.rules.specs.declared.Hole.{Hole}
 use Rattle.rules.specs.declared.Heap.{Heap}
 use Rattle.rules.specs.declared.Decided.{Decided}
 use Rattle.rules.specs.declared.Refusal.the-variants.{PastArena}
 use Rattle.rules.specs.declared.Answer.the-variants.{Extended}
-use Rattle.rules.specs.Inner.{put, nothing, written, refusing, Relinks, Decides, Fair, headRules, behind, ends, extending}
-use Rattle.rules.proofs.Cases.{cases, both}
+use Rattle.rules.specs.Inner.{put, nothing, written, refusing, Relinks, Decides, Fair, behind, extending}
+use Rattle.rules.proofs.Cases.{both}
 use Rattle.rules.proofs.Walk.{rules-keep, walks}
 use Rattle.rules.proofs.Rises.{rises-back, sound-rises}
 use Rattle.rules.proofs.Lists.{heads-to}
@@ -33,7 +31,7 @@ use Rattle.walk.specs.Walk.{startOf, nearOf, lastPlace}
 use Rattle.walk.specs.Settled.{Ready, Settled}
 use Rattle.walk.specs.declared.Near.{Near}
 use Rattle.walk.specs.declared.Spot.the-variants as spot
-use Rattle.walk.proofs.AddsUp.{by-walk}
+use Rattle.walk.proofs.ToEnd.{by-walk}
 use Rattle.walk.proofs.Stands.{stands}
 use Rattle.walk.proofs.ToSpan.{Lies}
 use Rattle.joining.specs.Span.{Free}

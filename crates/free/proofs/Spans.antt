@@ -7,7 +7,7 @@ use native.Mathlib.Omega.{arith}
 use borrow.Author.Tests.{not-true, not-false, le-ltb, ne-eqb}
 use Rattle.rules.specs.Fixed.{minSize, grain}
 use Rattle.rules.specs.Tests.{any}
-use Rattle.rules.specs.Kinds.{addr, none, multipleOf}
+use Rattle.rules.specs.Kinds.{addr, multipleOf}
 use Rattle.rules.specs.Holes.{end}
 use Rattle.rules.specs.Sound.{size, soundHoles}
 use Rattle.rules.specs.Refusals.{refusal8}

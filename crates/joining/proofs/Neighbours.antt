@@ -1,37 +1,23 @@
 -- The neighbours that the search found: what it passed before them, and the walk that goes on behind. Assumes nothing.
-use mathlib.Core.Path.{_≡_, sym, ap, _∙_}
+use mathlib.Core.Path.{_≡_, sym, _∙_}
 use mathlib.Core.Bool.{false}
-use mathlib.Core.List.{List, [], _∷_, _++_}
-use Prim.Native.Nat.{ℕ, suc, _+_, _*_, _≤_}
-use native.Mathlib.Omega.{arith}
-use lib.ListN.{length}
-use borrow.Author.Tests.{le-ltb}
+use mathlib.Core.List.{List}
+use Prim.Native.Nat.{ℕ, _+_, _≤_}
 use Rattle.rules.specs.Fixed.{minSize}
-use Rattle.rules.specs.Tests.{all}
-use Rattle.rules.specs.Kinds.{placeOf, none}
-use Rattle.rules.specs.Holes as Holes
 use Rattle.rules.specs.Holes.{holesFrom}
-use Rattle.rules.specs.Sound.{size, soundHoles, holes, most}
+use Rattle.rules.specs.Sound.{soundHoles, holes}
 use Rattle.rules.specs.declared.Addr.{Addr}
-use Rattle.rules.specs.declared.Place.{Place}
-use Rattle.rules.specs.declared.Hole.{Hole}
 use Rattle.rules.specs.declared.Heap.{Heap}
-use Rattle.rules.specs.Inner.{Fair, headRules, behind}
-use Rattle.rules.proofs.Cases.{cases}
-use Rattle.rules.proofs.Walk.{rules-keep}
-use Rattle.rules.proofs.Totals.{total-append}
-use Rattle.walk.specs.Walk.{Enough, startOf, walkedOf}
+use Rattle.rules.specs.Inner.{Fair}
+use Rattle.walk.specs.Walk.{Enough, walkedOf}
 use Rattle.walk.specs.Walk.{nearOf}
 use Rattle.walk.specs.declared.Near.{Near}
 use Rattle.walk.specs.declared.Walked.{Walked}
 use Rattle.walk.specs.declared.Spot.{Spot}
 use Rattle.walk.specs.declared.Spot.the-variants as spot
-use Rattle.walk.proofs.Turn.{start}
-use Rattle.walk.specs.Walk.{lastFloor}
 use Rattle.walk.proofs.ToSpan.{Lies, near-bad, near-at, near-reached}
 use Rattle.walk.specs.Walk.{addsUp}
-use Rattle.walk.proofs.AddsUp.{by-walk, Reached, onward-asks, onward-decides}
-use Rattle.walk.proofs.Rest.{rest}
+use Rattle.walk.proofs.ToEnd.{by-walk, Reached, onward-asks, onward-decides}
 
 -- ---- the rules on all holes
 

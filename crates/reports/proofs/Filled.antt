@@ -1,7 +1,7 @@
 -- The rows that a report fills, hole by hole. Assumes nothing.
 use mathlib.Core.Path.{_≡_, refl, sym, ap, _∙_}
-use mathlib.Core.Bool.{true, false}
-use mathlib.Core.List.{List, [], _∷_, _++_, map}
+use mathlib.Core.Bool.{true}
+use mathlib.Core.List.{List, [], _∷_, _++_, map, map-append}
 use Prim.Native.Nat.{ℕ, zero, suc, _+_, _≤_, _<_, min}
 use native.Mathlib.Omega.{arith}
 use lib.ListN.{length, length-map, set, take}
@@ -25,7 +25,7 @@ use Rattle.walk.specs.declared.Step.the-variants as step
 use Rattle.walk.proofs.Step as Steps
 use Rattle.walk.proofs.Passed.{count-more}
 use Rattle.walk.proofs.Turn.{Gone, all, begins-all, goes-on, all-left, all-end, all-break}
-use Rattle.walk.proofs.AddsUp.{by-end, by-break}
+use Rattle.walk.proofs.ToEnd.{by-end, by-break}
 
 -- ---- one row
 
@@ -38,10 +38,6 @@ over-more [] (y ∷ ys) (suc i) x e l = absurd (omega arith)
 over-more (z ∷ zs) [] i x e l = absurd (omega arith)
 over-more (z ∷ zs) (y ∷ ys) zero x e l = absurd (omega arith)
 over-more (z ∷ zs) (y ∷ ys) (suc i) x e l = ap (λ (t : List ℕ). z ∷ t) (over-more zs ys i x (omega arith) (omega arith))
-
-map-append : (f : Hole → ℕ) (ks js : List Hole) → map f (ks ++ js) ≡ map f ks ++ map f js
-map-append f [] js = refl
-map-append f (k ∷ ks) js = ap (λ (t : List ℕ). f k ∷ t) (map-append f ks js)
 
 row-more : (f : Hole → ℕ) (front : List Hole) (k : Hole) (row : List ℕ) (i : ℕ) → i ≡ length front → i < length row
     → set (over (map f front) row) i (f k) ≡ over (map f (front ++ (k ∷ []))) row

@@ -1,27 +1,45 @@
--- A pass over all holes: its last step and its sum decide the rules on them, and what it gathered is of them all. Assumes nothing.
+-- What a report gathers in a pass over all holes: its last step and its sum decide the rules on them; and what a report comes to by it. Assumes
+-- nothing.
 use mathlib.Core.Path.{_≡_, refl, sym, _∙_}
 use mathlib.Core.Bool.{true, false}
 use mathlib.Core.List.{List, [], _∷_, _++_}
-use Prim.Native.Nat.{ℕ, _+_, max}
+use Prim.Native.Nat.{ℕ, _+_, max, _-_, _≤_}
 use native.Mathlib.Omega.{arith}
 use denote.Enum.Declared.{tagOf}
 use types.Run.{OneOf}
 use Rattle.rules.specs.Holes as Holes
-use Rattle.rules.specs.Sound.{soundHoles, holes}
+use Rattle.rules.specs.Sound.{soundHoles, holes, size}
 use Rattle.rules.specs.declared.Addr.{Addr}
 use Rattle.rules.specs.declared.Place.{Place}
 use Rattle.rules.specs.declared.Hole.{Hole}
 use Rattle.rules.specs.declared.Heap.{Heap}
-use Rattle.rules.proofs.Cases.{cases, apart}
+use Rattle.rules.proofs.Cases.{cases, apart, by-test}
 use Rattle.walk.specs.Walk.{stepOf, isEnd, never}
 use Rattle.walk.specs.declared.Step.{Step}
 use Rattle.walk.proofs.Step as Steps
 use Rattle.walk.proofs.Turn.{all-end, all-break}
-use Rattle.walk.proofs.AddsUp.{by-end, by-break}
+use Rattle.walk.proofs.ToEnd.{by-end, by-break}
 use Rattle.walk.proofs.Gathered.{Counting}
 use Rattle.reports.specs.Reports.{endsSound, surveyOf, countOf}
 use Rattle.reports.specs.declared.Survey.the-variants as survey
 use Rattle.reports.specs.declared.Count.the-variants as count
+use lib.ListN.{length}
+use Rattle.rules.specs.Holes.{largest}
+use Rattle.rules.specs.Calls.{Call, refused, told, list, room}
+use Rattle.rules.specs.Outcome.{outcome}
+use Rattle.rules.specs.declared.Refusal.{Refusal}
+use Rattle.rules.specs.declared.Refusal.the-variants.{NotSound}
+use Rattle.rules.specs.declared.Answer.the-variants.{Listed, Room}
+use Rattle.rules.specs.Inner.{Lent}
+use Rattle.rules.proofs.Walk.{sound-sum}
+use Rattle.rules.proofs.Decide.{Opens}
+use Rattle.rules.proofs.Calls.{outcome-fair, sifted-sound, sifted-broken, list-on, room-on}
+use Rattle.numbers.specs.Checks.{checkedOf}
+use Rattle.numbers.specs.declared.Checked.{Checked}
+use Rattle.numbers.specs.declared.Checked.the-variants.{No}
+use Rattle.numbers.proofs.Verdicts.{Tested, refuses-call}
+use Rattle.reports.specs.declared.Survey.{Survey}
+use Rattle.reports.specs.declared.Count.{Count}
 
 largest-more : (front : List Hole) (k : Hole) → Holes.largest (front ++ (k ∷ [])) ≡ max (Holes.largest front) (k .size)
 unfolding Holes.largest
@@ -65,3 +83,45 @@ module _ {h : Heap} {m : List ℕ} {at : Place} {floor : Addr} {total n : ℕ} {
       pub count-broken : count.Bad ≡ countOf h (holes h m)
       unfolding countOf
       count-broken = rw (← decides, y)
+
+module _ (h : Heap) (m : List ℕ) where
+  -- what was gathered of holes that keep every rule; else it is refused
+  abbrev Surveyed : Survey → Type 0
+  Surveyed (survey.Of n g) = (soundHoles h (holes h m) ≡ true) × (n ≡ length (holes h m)) × (g ≡ largest (holes h m))
+  Surveyed survey.Bad = soundHoles h (holes h m) ≡ false
+
+  surveys : Surveyed (surveyOf h (holes h m))
+  unfolding surveyOf
+  surveys = by-test Surveyed (soundHoles h (holes h m)) _ _ (λ e. (e, refl, refl)) (λ e. e)
+
+  pub survey-says : {v w : Survey} → v ≡ surveyOf h (holes h m) → v ≡ w → Surveyed w
+  survey-says is e = rw (sym is ∙ e) at surveys
+
+  abbrev Counted : Count → Type 0
+  Counted (count.Of n) = (soundHoles h (holes h m) ≡ true) × (n ≡ length (holes h m))
+  Counted count.Bad = soundHoles h (holes h m) ≡ false
+
+  counts : Counted (countOf h (holes h m))
+  unfolding countOf
+  counts = by-test Counted (soundHoles h (holes h m)) _ _ (λ e. (e, refl)) (λ e. e)
+
+  pub count-says : {v w : Count} → v ≡ countOf h (holes h m) → v ≡ w → Counted w
+  count-says is e = rw (sym is ∙ e) at counts
+
+  pub report-no : (c : Call) → Opens c ≡ false → {len : ℕ} {v : Checked} {r : Refusal} → len ≡ length m → v ≡ checkedOf len h → v ≡ No r
+      → outcome c h m ≡ refused r
+  report-no c later l is e = refuses-call c h m later (rw l at (sym is ∙ e))
+
+  module _ (t : Tested h m) where
+    pub report-broken : (c : Call) → Opens c ≡ false → soundHoles h (holes h m) ≡ false → outcome c h m ≡ refused NotSound
+    report-broken c later s = outcome-fair c h m later (t .lent .lent) (t .numbers) ∙ sifted-broken h (holes h m) _ s
+
+    pub room-told : {n g : ℕ} → Surveyed (survey.Of n g) → outcome room h m ≡ told (Room g n) []
+    room-told s = room-on h m (t .lent .lent) (t .numbers) ∙ sifted-sound h (holes h m) _ (s .0) ∙ rw (s .1, s .2)
+
+    pub list-told : {n : ℕ} → Counted (count.Of n) → outcome list h m ≡ told (Listed n (size h - h .used)) (holes h m)
+    list-told s = list-on h m (t .lent .lent) (t .numbers) ∙ sifted-sound h (holes h m) _ (s .0) ∙ rw (s .1)
+
+  -- used is a part of size, the rest of which is free
+  pub used-fits : Lent h m → soundHoles h (holes h m) ≡ true → h .used ≤ size h
+  used-fits lent s = omega (arith, sound-sum h (lent .fair) (holes h m) s)

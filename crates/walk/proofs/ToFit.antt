@@ -1,22 +1,30 @@
--- The walk to the hole that an allocation uses: how its loop answers, and what the answer says of the list of holes. Assumes nothing.
-use mathlib.Core.Path.{_≡_, refl, sym, _∙_}
-use mathlib.Core.Bool.{true, false}
-use mathlib.Core.List.{List, [], _∷_, _++_, append-nil, append-assoc}
-use Prim.Native.Nat.{ℕ, _+_}
+-- The walk to the hole that an allocation uses: where a block starts in a hole and whether the hole suits; how the loop answers, and what the
+-- answer says of the list of holes. Assumes nothing.
+use mathlib.Core.Path.{_≡_, sym, ap, refl, _∙_}
+use mathlib.Core.Bool.{true, false, or-false}
+use Prim.Native.Nat.{ℕ, _+_, _%_, _≤_, _<_}
 use native.Mathlib.Omega.{arith}
+use lib.Dec.{leb}
+use borrow.Author.Tests.{eq-eqb, ne-eqb, le-leb, lt-leb}
+use Rattle.rules.specs.Fixed.{minSize}
+use Rattle.rules.specs.Round.{Power, Above}
+use Rattle.rules.specs.Kinds.{addr, plus, placeOf, none}
+use Rattle.rules.specs.Holes.{end, firstOf}
+use Rattle.rules.specs.Sound.{gap, holes}
+use Rattle.rules.specs.Allocate.{candidate, suits, find, later, nothing}
+use Rattle.rules.specs.declared.Addr.{Addr}
+use Rattle.rules.specs.declared.Hole.{Hole}
+use Rattle.rules.proofs.Cases.{by-eq}
+use Rattle.rules.proofs.Multiples.{up-near, above-is}
+use Rattle.rules.proofs.Powers.{power-pos}
+use Rattle.rules.proofs.Used.{candidate-low}
+use mathlib.Core.List.{List, [], _∷_, _++_, append-nil, append-assoc}
 use lib.ListN.{length}
 use denote.Enum.Declared.{tagOf}
 use types.Run.{OneOf}
-use Rattle.rules.specs.Tests.{all}
-use Rattle.rules.specs.Kinds.{placeOf, none}
 use Rattle.rules.specs.Holes as Holes
-use Rattle.rules.specs.Holes.{firstOf}
-use Rattle.rules.specs.Sound.{holes}
 use Rattle.rules.specs.Allocate as Allocate
-use Rattle.rules.specs.Allocate.{find, later, nothing}
-use Rattle.rules.specs.declared.Addr.{Addr}
 use Rattle.rules.specs.declared.Place.{Place}
-use Rattle.rules.specs.declared.Hole.{Hole}
 use Rattle.rules.specs.declared.Heap.{Heap}
 use Rattle.rules.specs.Inner.{Fair, behind}
 use Rattle.rules.proofs.Walk.{Keeps, rules-keep, walks}
@@ -26,13 +34,60 @@ use Rattle.walk.specs.declared.Step.{Step}
 use Rattle.walk.specs.declared.Step.the-variants as step
 use Rattle.walk.specs.declared.Search.{Search}
 use Rattle.walk.specs.declared.Search.the-variants as search
-use Rattle.walk.specs.Walk.{startOf, stepOf, isEnd, Stop, stopped, ended, broken, walked, lastPlace, lastFloor, cursorAt, searchBy, searchOf}
+use Rattle.walk.specs.Walk.{startOf, stepOf, isEnd, Stop, stopped, ended, broken, walked, lastPlace, lastFloor, searchBy, searchOf}
 use Rattle.walk.proofs.Step as Steps
 use Rattle.walk.proofs.Passed.{floor-some, total-more, Spaced, spaced-more}
 use Rattle.walk.proofs.Turn.{turn-place, all-halt, all-end, all-break}
-use Rattle.walk.proofs.Said.{None, Says, said}
+use Rattle.walk.proofs.Passed.{None, Says, said}
 use Rattle.walk.proofs.Gathered.{Seeking}
-use Rattle.walk.proofs.AddsUp.{Reached}
+use Rattle.walk.proofs.ToEnd.{Reached}
+
+module _ {align : ℕ} (p : Power align) (h : Addr) where
+  -- the two ways to compute it
+  pub aligned-candidate : h .0 % align ≡ 0 → h ≡ candidate align h
+  unfolding candidate
+  aligned-candidate e = rw (eq-eqb (h .0 % align) 0 e)
+
+  pub raised-candidate : {r : Addr} → (h .0 % align ≡ 0 → ⊥) → Above align (plus h minSize .0) (r .0) → r ≡ candidate align h
+  unfolding candidate
+  raised-candidate n a = rw (ne-eqb (h .0 % align) 0 n) (ap addr (above-is (power-pos p) a))
+
+  -- it lies less than a head and the alignment beyond the address of the hole
+  pub candidate-near : candidate align h .0 < plus h minSize .0 + align
+  unfolding candidate
+  candidate-near =
+      by-eq (h .0 % align) 0
+      (λ e. rw (eq-eqb (h .0 % align) 0 e) (omega arith))
+      (λ n.
+      rw (ne-eqb (h .0 % align) 0 n) (up-near align (plus h minSize .0) (power-pos p)))
+
+-- ---- whether a hole suits, test by test
+
+module _ (want : ℕ) {align : ℕ} (p : Power align) (k : Hole) where
+  -- a size below the rounded size is too small wherever the block starts
+  pub small-unsuited : k .size < want → false ≡ suits want align k
+  unfolding suits
+  small-unsuited l =
+      let a = candidate-low align (k .addr) (power-pos p) in
+      rw (lt-leb (candidate align (k .addr) .0 + want) (end k .0) (omega arith))
+
+  -- the rest, where it starts
+  module _ {start : Addr} (is : start ≡ candidate align (k .addr)) where
+    pub past-unsuited : end k .0 < start .0 + want → false ≡ suits want align k
+    unfolding suits
+    past-unsuited l = rw (← is, lt-leb (start .0 + want) (end k .0) l)
+
+    pub filled-suits : start .0 + want ≡ end k .0 → true ≡ suits want align k
+    unfolding suits gap
+    filled-suits e =
+        let l : start .0 + want ≤ end k .0 = omega arith in
+        rw (← is, le-leb (start .0 + want) (end k .0) l, eq-eqb (start .0 + want) (end k .0) e)
+
+    pub left-suits : start .0 + want ≤ end k .0 → (start .0 + want ≡ end k .0 → ⊥)
+        → leb (start .0 + want + minSize) (end k .0) ≡ suits want align k
+    unfolding suits gap
+    left-suits l n =
+        rw (← is, le-leb (start .0 + want) (end k .0) l, ne-eqb (start .0 + want) (end k .0) n) (sym (or-false _))
 
 -- ---- the loop
 

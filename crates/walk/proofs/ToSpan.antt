@@ -1,15 +1,15 @@
 -- The walk to the neighbours of a span: how its loop answers, and what the answer says of the list of holes. Assumes nothing.
-use mathlib.Core.Path.{_≡_, refl, sym, ap, _∙_}
-use mathlib.Core.Bool.{Bool, true, false}
+use mathlib.Core.Path.{_≡_, refl}
+use mathlib.Core.Bool.{true, false}
 use mathlib.Core.List.{List, [], _∷_, _++_}
 use Prim.Native.Nat.{ℕ, _+_, _≤_, _<_}
 use native.Mathlib.Omega.{arith}
 use denote.Enum.Declared.{tagOf}
 use types.Run.{OneOf}
-use borrow.Author.Tests.{ltb-true, ltb-false, lt-ltb, le-ltb}
+use borrow.Author.Tests.{ltb-true, ltb-false, lt-ltb}
 use Rattle.rules.specs.Fixed.{minSize}
 use Rattle.rules.specs.Tests.{all}
-use Rattle.rules.specs.Kinds.{placeOf, none, before}
+use Rattle.rules.specs.Kinds.{none, before}
 use Rattle.rules.specs.Holes as Holes
 use Rattle.rules.specs.Holes.{firstOf}
 use Rattle.rules.specs.Sound.{holes}
@@ -30,9 +30,9 @@ use Rattle.walk.specs.Walk.{startOf, stepOf, isEnd, Stop, stopped, ended
 use Rattle.walk.proofs.Step as Steps
 use Rattle.walk.proofs.Passed.{Spaced}
 use Rattle.walk.proofs.Turn.{turn-place, end-place, all-halt, all-end, all-break}
-use Rattle.walk.proofs.Said.{None, Came, Says, said}
+use Rattle.walk.proofs.Passed.{None, Came, Says, said}
 use Rattle.walk.proofs.Gathered.{Seeking}
-use Rattle.walk.proofs.AddsUp.{Reached}
+use Rattle.walk.proofs.ToEnd.{Reached}
 
 -- ---- the loop
 

@@ -48,31 +48,6 @@ enough-more : (h : Heap) (floor : Addr) (n : ℕ) → Enough h floor n → floor
 enough-more h floor zero e l = absurd (omega arith)
 enough-more h floor (suc n) e l = omega arith
 
--- the heads that are left behind one that is read
-pub record Ahead (h : Heap) (m : List ℕ) (at : Place) (n : ℕ) (k : Hole) (q : Place) : Type 0 where
-  pub rest : ℕ
-  pub enough : Enough h (behind k) rest
-  pub list : holesFrom n (h .base) m at ≡ k ∷ holesFrom rest (h .base) m q
-  pub first : firstOf (h .base) (holesFrom rest (h .base) m q) ≡ q
-
-module _ (h : Heap) (m : List ℕ) (at : Place) (floor : Addr) (n : ℕ) (en : Enough h floor n) (high : floor .0 ≤ h .top .0 + minSize) where
-  list-at : isNone at ≡ false → holesFrom n (h .base) m at ≡ holeAt h m at ∷ holesFrom (n - 1) (h .base) m (headAt m at .next)
-  list-at some =
-      let is : n ≡ suc (n - 1) = omega (arith, enough-more h floor n en high) in
-      ap (λ (i : ℕ). holesFrom i (h .base) m at) is ∙ holes-more (n - 1) h m at some
-
-  ahead : {k : Hole} {q : Place} → Found h m at floor k q → Ahead h m at n k q
-  ahead {k} {q} f =
-      let r = rules-keep h floor k (f .rules) in
-      let more = enough-more h floor n en high in
-      let enough : Enough h (behind k) (n - 1) = omega arith in
-      record {
-        rest = n - 1;
-        enough = enough;
-        list = rw (f .hole, f .next) (list-at (f .some));
-        first = first-at (n - 1) h m q (enough-more h (behind k) (n - 1) enough (omega arith));
-      }
-
 -- ---- a walk that has come to a place
 
 -- a walk: what stops it, the heap and its arena, the place and the floor from which it starts
@@ -135,8 +110,22 @@ module _ {w : Walk} {at : Place} {floor : Addr} {front : List Hole} (g : Gone w 
   found : {k : Hole} {q : Place} → At k q → Found (w .h) (w .m) at floor k q
   found e = rw (sym is ∙ e) at (finds (w .h) (w .m) at floor)
 
-  ahead-of : {k : Hole} {q : Place} → At k q → {n : ℕ} (l : Left w at floor front n) → Ahead (w .h) (w .m) at (l .rest) k q
-  ahead-of e l = ahead (w .h) (w .m) at floor (l .rest) (l .enough) (g .high) (found e)
+  -- the head that is read stands in front of those that are left
+  list-at : {n : ℕ} (l : Left w at floor front n) → isNone at ≡ false
+      → holesFrom (l .rest) (w .h .base) (w .m) at
+      ≡ holeAt (w .h) (w .m) at ∷ holesFrom (l .rest - 1) (w .h .base) (w .m) (headAt (w .m) at .next)
+  list-at l some =
+      let is : l .rest ≡ suc (l .rest - 1) = omega (arith, enough-more (w .h) floor (l .rest) (l .enough) (g .high)) in
+      ap (λ (i : ℕ). holesFrom i (w .h .base) (w .m) at) is ∙ holes-more (l .rest - 1) (w .h) (w .m) at some
+
+  ahead : {k : Hole} {q : Place} → At k q → {n : ℕ} (l : Left w at floor front n)
+      → holesFrom (l .rest) (w .h .base) (w .m) at ≡ k ∷ holesFrom (l .rest - 1) (w .h .base) (w .m) q
+  ahead e l = let f = found e in rw (f .hole, f .next) (list-at l (f .some))
+
+  enough : {k : Hole} {q : Place} → At k q → {n : ℕ} (l : Left w at floor front n) → Enough (w .h) (behind k) (l .rest - 1)
+  enough {k} e l =
+      let r = rules-keep (w .h) floor k (found e .rules) in
+      omega (arith, enough-more (w .h) floor (l .rest) (l .enough) (g .high), l .enough)
 
   -- the step finds a hole
   pub turn-bounds : {k : Hole} {q : Place} → At k q → Bounds w floor front k
@@ -161,12 +150,12 @@ module _ {w : Walk} {at : Place} {floor : Addr} {front : List Hole} (g : Gone w 
         left =
             λ i en.
             let l = g .left i en in
-            let a = ahead-of e l in
+            let a = ahead e l in
             record {
-              rest = a .rest;
-              enough = a .enough;
-              list = l .list ∙ rw (a .list, append-assoc);
-              same = l .same ∙ rw (a .list, found e .rules, n) (past-more front k _);
+              rest = l .rest - 1;
+              enough = enough e l;
+              list = l .list ∙ rw (a, append-assoc);
+              same = l .same ∙ rw (a, found e .rules, n) (past-more front k _);
             };
         behind = sym (floor-some (w .low) front k);
         spaced = spaced-more (w .low) front k (b .least) (g .spaced) (omega arith);
@@ -179,8 +168,9 @@ module _ {w : Walk} {at : Place} {floor : Addr} {front : List Hole} (g : Gone w 
   unfolding walked past
   halts {k} {q} e y n en =
       let l = g .left n en in
-      let a = ahead-of e l in
-      (holesFrom (a .rest) (w .h .base) (w .m) q, l .same ∙ rw (a .list, found e .rules, y, append-nil), a .first)
+      let b = turn-bounds e in
+      let more = enough-more (w .h) (behind k) (l .rest - 1) (enough e l) (omega arith) in
+      (holesFrom (l .rest - 1) (w .h .base) (w .m) q, l .same ∙ rw (ahead e l, found e .rules, y, append-nil), first-at (l .rest - 1) (w .h) (w .m) q more)
 
   -- the step finds no further hole
   end-found : isEnd st ≡ true → (isNone at ≡ true) × (ends (w .h) floor ≡ true)
@@ -206,7 +196,7 @@ module _ {w : Walk} {at : Place} {floor : Addr} {front : List Hole} (g : Gone w 
       l .same
       ∙ cases (isNone at)
       (λ t. rw (holes-none (l .rest) (w .h) (w .m) at t, b .0 t))
-      (λ t. rw (list-at (w .h) (w .m) at floor (l .rest) (l .enough) (g .high) t, b .1 t))
+      (λ t. rw (list-at l t, b .1 t))
 
 -- ---- where a walk over all holes starts
 

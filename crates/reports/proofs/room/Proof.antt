@@ -5,7 +5,7 @@ use borrow.Author.Needs.{needs}
 use Rattle.rules.specs.Calls.{room}
 use Rattle.rules.proofs.Calls.{answer-refused, answer-told}
 use Rattle.numbers.proofs.Verdicts.{Tested, tested}
-use Rattle.reports.proofs.Reported.{surveyed, report-no, report-broken, room-told}
+use Rattle.reports.proofs.Gathered.{survey-says, report-no, report-broken, room-told}
 use Rattle.reports.proofs.room.Statement.{statement}
 use Rattle.reports.proofs.room.Tie as tie
 
@@ -53,7 +53,7 @@ returns-2 c =
     let k = v .before .before in
     let s = start (k .before) .args in
     sym (answer-refused room (s .h) (s .arena .now) _
-    (report-broken _ _ (passed k) room refl (surveyed _ _ (v .survey .ensures) (c .enum-told2 .given .1))))
+    (report-broken _ _ (passed k) room refl (survey-says _ _ (v .survey .ensures) (c .enum-told2 .given .1))))
 
 returns-3 : tie.Need-returns-3
 returns-3 c =
@@ -61,7 +61,7 @@ returns-3 c =
     let k = v .before .before in
     let s = start (k .before) .args in
     sym (answer-told room (s .h) (s .arena .now) _ []
-    (room-told _ _ (passed k) (surveyed _ _ (v .survey .ensures) (c .before .found .given .1))))
+    (room-told _ _ (passed k) (survey-says _ _ (v .survey .ensures) (c .before .found .given .1))))
 
 pub room-spec : {M : Type 1} → statement M
 room-spec =

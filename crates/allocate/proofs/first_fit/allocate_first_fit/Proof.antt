@@ -9,7 +9,6 @@ use Rattle.rules.specs.Fixed.{minSize}
 use Rattle.rules.specs.Holes.{end}
 use Rattle.rules.specs.Sound.{soundHoles, holes}
 use Rattle.rules.proofs.Written.{decides-sound, decides-broken}
-use Rattle.walk.specs.Walk.{startOf}
 use Rattle.walk.specs.Walk.{searchOf}
 use Rattle.walk.specs.declared.Fit.{Fit}
 use Rattle.walk.specs.declared.Search.the-variants as search

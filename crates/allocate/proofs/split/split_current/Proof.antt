@@ -1,12 +1,9 @@
 -- `allocate::split::split_current` meets its contract: what remains behind the block and in front of it, linked, is the new list. Assumes
 -- nothing.
-use mathlib.Core.Path.{_≡_}
 use native.Mathlib.Omega.{arith}
 use borrow.Author.Needs.{needs}
 use lib.ListN.{length}
-use Rattle.rules.specs.Kinds.{none}
 use Rattle.rules.specs.Sound.{holes}
-use Rattle.walk.specs.Walk.{startOf}
 use Rattle.walk.proofs.ToFit.{Fits}
 use Rattle.allocate.proofs.Pieces.{found, Room, room, split-is}
 use Rattle.allocate.proofs.split.split_current.Statement.{statement}

@@ -8,7 +8,7 @@ use Rattle.rules.specs.Fixed.{minSize}
 use Rattle.rules.specs.Holes as Holes
 use Rattle.rules.specs.declared.Hole.{Hole}
 use Rattle.walk.specs.Walk.{never}
-use Rattle.walk.proofs.Turn.{turn-bounds}
+use Rattle.walk.proofs.Turn.{all, Bounds, turn-bounds}
 use Rattle.walk.proofs.Gathered.{Counting, counts, counts-on}
 use Rattle.reports.proofs.Gathered.{largest-on, surveyed, survey-broken}
 use Rattle.reports.proofs.gathering.survey.Statement.{statement}
@@ -20,6 +20,18 @@ Inv-loop h arena at₀ floor₀ total₀ count₀ largest₀ at floor total coun
 
 abbrev μ-loop : tie.MeasureT-loop
 μ-loop h arena at₀ floor₀ total₀ count₀ largest₀ at floor total count largest = h .top .0 + minSize - floor .0
+
+-- what a turn that found a hole leans on
+abbrev turn : tie.After-st Inv-loop μ-loop → tie.At-loop Inv-loop μ-loop
+turn c = c .before .before .before
+
+abbrev start : tie.After-st Inv-loop μ-loop → tie.Start Inv-loop μ-loop
+start c = turn c .before .before .before .before
+
+bounds : (c : tie.After-st Inv-loop μ-loop)
+    → Bounds (all never (start c .args .h) (start c .args .arena .now))
+    (turn c .loop .floor) (turn c .loop .inv .0) (c .st .given .0 .0)
+bounds c = turn-bounds (turn c .loop .inv .1 .gone) (c .before .before .next .ensures) (c .st .given .1)
 
 first-floor-requires : tie.Need-first-floor-requires Inv-loop μ-loop
 first-floor-requires c κs = search needs
@@ -50,32 +62,19 @@ returns-2 c =
     survey-broken (t .before .loop .inv .1) (t .next .ensures) (c .before .before .match .keys2) (sym (c .before .ends-sound .ensures) ∙ c .if1 .left)
 
 add-total : tie.Need-add-total Inv-loop μ-loop
-add-total c =
-    let s = c .before .before in
-    let t = s .before .before in
-    omega (arith, turn-bounds (t .before .loop .inv .1 .gone) (t .next .ensures) (s .st .given .1))
+add-total c = omega (arith, bounds (c .before .before))
 
 add-count : tie.Need-add-count Inv-loop μ-loop
-add-count c =
-    let s = c .before .before in
-    let t = s .before .before in
-    omega (arith, turn-bounds (t .before .loop .inv .1 .gone) (t .next .ensures) (s .st .given .1))
+add-count c = omega (arith, bounds (c .before .before))
 
 larger-requires : tie.Need-larger-requires Inv-loop μ-loop
 larger-requires c κs = search needs
 
 behind-requires : tie.Need-behind-requires Inv-loop μ-loop
-behind-requires c κs =
-    let s = c .before .before .before in
-    let t = s .before .before in
-    omega (arith, turn-bounds (t .before .loop .inv .1 .gone) (t .next .ensures) (s .st .given .1))
+behind-requires c κs = omega (arith, bounds (c .before .before .before))
 
 loop-less : tie.Need-loop-less Inv-loop μ-loop
-loop-less c =
-    let s = c .before .before .before .before in
-    let t = s .before .before in
-    let b = turn-bounds (t .before .loop .inv .1 .gone) (t .next .ensures) (s .st .given .1) in
-    rw (c .behind .ensures) (omega arith)
+loop-less c = let b = bounds (c .before .before .before .before) in rw (c .behind .ensures) (omega arith)
 
 loop-again : tie.Need-loop-again Inv-loop μ-loop
 loop-again c =

@@ -4,7 +4,7 @@ use Prim.Native.Nat.{_+_, _≤_}
 use native.Mathlib.Omega.{arith}
 use borrow.Author.Needs.{needs}
 use Rattle.rules.specs.Fixed.{minSize}
-use Rattle.rules.specs.Holes.{hole, headAt}
+use Rattle.rules.specs.Holes.{hole}
 use Rattle.rules.specs.declared.Addr.{Addr}
 use Rattle.rules.specs.declared.Place.{Place}
 use Rattle.rules.specs.declared.Hole.{Hole}

@@ -1,7 +1,7 @@
 -- `walk::to_end::is_all_free` meets its contract: the sum is tested by a difference, which does not wrap. Assumes nothing.
 use mathlib.Core.Path.{sym, _∙_}
 use borrow.Author.Needs.{needs}
-use Rattle.walk.proofs.AddsUp.{sum-left, sum-over}
+use Rattle.walk.proofs.ToEnd.{sum-left, sum-over}
 use Rattle.walk.proofs.to_end.is_all_free.Statement.{statement}
 use Rattle.walk.proofs.to_end.is_all_free.Tie as tie
 

@@ -7,7 +7,7 @@ use borrow.Author.Needs.{needs}
 use Rattle.rules.specs.Sound.{most, holes}
 use Rattle.walk.specs.Walk.{startOf, walkedOf}
 use Rattle.walk.proofs.Turn.{start}
-use Rattle.walk.proofs.AddsUp.{holes-sound}
+use Rattle.walk.proofs.ToEnd.{holes-sound}
 use Rattle.walk.proofs.to_end.is_sound.Statement.{statement}
 use Rattle.walk.proofs.to_end.is_sound.Tie as tie
 

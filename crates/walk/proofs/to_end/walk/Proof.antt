@@ -4,8 +4,8 @@ use Prim.Native.Nat.{_+_, _-_}
 use native.Mathlib.Omega.{arith}
 use borrow.Author.Needs.{needs}
 use Rattle.rules.specs.Fixed.{minSize}
-use Rattle.walk.proofs.Turn.{turn-bounds}
-use Rattle.walk.proofs.ToEnd.{Summing, sums, sums-on, walk-ended, walk-broken}
+use Rattle.walk.proofs.Turn.{Bounds, turn-bounds}
+use Rattle.walk.proofs.ToEnd.{onward, Summing, sums, sums-on, walk-ended, walk-broken}
 use Rattle.walk.proofs.to_end.walk.Statement.{statement}
 use Rattle.walk.proofs.to_end.walk.Tie as tie
 
@@ -14,6 +14,18 @@ Inv-loop h arena before at₀ floor₀ total₀ at floor total = Summing h arena
 
 abbrev μ-loop : tie.MeasureT-loop
 μ-loop h arena before at₀ floor₀ total₀ at floor total = h .top .0 + minSize - floor .0
+
+-- what a turn that found a hole leans on
+abbrev turn : tie.After-st Inv-loop μ-loop → tie.At-loop Inv-loop μ-loop
+turn c = c .before .before .before
+
+abbrev start : tie.After-st Inv-loop μ-loop → tie.Start Inv-loop μ-loop
+start c = turn c .before .before
+
+bounds : (c : tie.After-st Inv-loop μ-loop)
+    → Bounds (onward (start c .args .h) (start c .args .arena .now) (start c .args .from) (start c .args .low))
+    (turn c .loop .floor) (turn c .loop .inv .front) (c .st .given .0 .0)
+bounds c = turn-bounds (turn c .loop .inv .gone) (c .before .before .next .ensures) (c .st .given .1)
 
 loop-holds : tie.Need-loop-holds Inv-loop μ-loop
 loop-holds c = let s = c .before .pre in sums _ _ _ _ _ (s .0 .fair) (s .2)
@@ -38,23 +50,13 @@ returns-2 c = λ n en.
     walk-broken (t .before .loop .inv) (t .next .ensures) n en (c .before .before .match .keys2) (sym (c .before .is-end .ensures) ∙ c .if1 .left)
 
 add-total : tie.Need-add-total Inv-loop μ-loop
-add-total c =
-    let s = c .before .before in
-    let t = s .before .before in
-    omega (arith, turn-bounds (t .before .loop .inv .gone) (t .next .ensures) (s .st .given .1))
+add-total c = omega (arith, bounds (c .before .before))
 
 behind-requires : tie.Need-behind-requires Inv-loop μ-loop
-behind-requires c κs =
-    let s = c .before .before in
-    let t = s .before .before in
-    omega (arith, turn-bounds (t .before .loop .inv .gone) (t .next .ensures) (s .st .given .1))
+behind-requires c κs = omega (arith, bounds (c .before .before))
 
 loop-less : tie.Need-loop-less Inv-loop μ-loop
-loop-less c =
-    let s = c .before .before .before in
-    let t = s .before .before in
-    let b = turn-bounds (t .before .loop .inv .gone) (t .next .ensures) (s .st .given .1) in
-    rw (c .behind .ensures) (omega arith)
+loop-less c = let b = bounds (c .before .before .before) in rw (c .behind .ensures) (omega arith)
 
 loop-again : tie.Need-loop-again Inv-loop μ-loop
 loop-again c =

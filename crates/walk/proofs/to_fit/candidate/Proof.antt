@@ -3,7 +3,7 @@
 use mathlib.Core.Path.{sym, _∙_}
 use borrow.Author.Needs.{needs}
 use Rattle.rules.proofs.Powers.{power-pos, mask}
-use Rattle.walk.proofs.Candidates.{aligned-candidate, raised-candidate}
+use Rattle.walk.proofs.ToFit.{aligned-candidate, raised-candidate}
 use Rattle.walk.proofs.to_fit.candidate.Statement.{statement}
 use Rattle.walk.proofs.to_fit.candidate.Tie as tie
 

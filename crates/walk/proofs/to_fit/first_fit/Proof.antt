@@ -6,7 +6,7 @@ use native.Mathlib.Omega.{arith}
 use borrow.Author.Needs.{needs}
 use Rattle.rules.specs.Fixed.{minSize}
 use Rattle.rules.specs.Allocate.{suits}
-use Rattle.walk.proofs.Turn.{turn-bounds}
+use Rattle.walk.proofs.Turn.{all, Bounds, turn-bounds}
 use Rattle.walk.proofs.Gathered.{Seeking, seeks, seeks-on}
 use Rattle.walk.proofs.ToFit.{search-found, search-ended, search-broken}
 use Rattle.walk.proofs.to_fit.first_fit.Statement.{statement}
@@ -17,6 +17,18 @@ Inv-loop h arena want align cursor₀ floor₀ total₀ count₀ cursor floor to
 
 abbrev μ-loop : tie.MeasureT-loop
 μ-loop h arena want align cursor₀ floor₀ total₀ count₀ cursor floor total count = h .top .0 + minSize - floor .0
+
+-- what a turn that found a hole leans on
+abbrev turn : tie.After-st Inv-loop μ-loop → tie.At-loop Inv-loop μ-loop
+turn c = c .before .before .before .before
+
+abbrev start : tie.After-st Inv-loop μ-loop → tie.Start Inv-loop μ-loop
+start c = turn c .before .before .before .before
+
+bounds : (c : tie.After-st Inv-loop μ-loop)
+    → Bounds (all (suits (start c .args .want) (start c .args .align)) (start c .args .h) (start c .args .arena .now))
+    (turn c .loop .floor) (turn c .loop .inv .front) (c .st .given .0 .0)
+bounds c = turn-bounds (turn c .loop .inv .counting .gone) (c .before .before .next .ensures) (c .st .given .1)
 
 first-floor-requires : tie.Need-first-floor-requires Inv-loop μ-loop
 first-floor-requires c κs = search needs
@@ -49,36 +61,21 @@ returns-2 c =
     (c .before .before .match .keys2) (sym (c .before .is-end .ensures) ∙ c .if1 .left)
 
 add-total : tie.Need-add-total Inv-loop μ-loop
-add-total c =
-    let s = c .before .before in
-    let t = s .before .before in
-    omega (arith, turn-bounds (t .before .before .loop .inv .counting .gone) (t .next .ensures) (s .st .given .1))
+add-total c = omega (arith, bounds (c .before .before))
 
 add-count : tie.Need-add-count Inv-loop μ-loop
-add-count c =
-    let s = c .before .before in
-    let t = s .before .before in
-    omega (arith, turn-bounds (t .before .before .loop .inv .counting .gone) (t .next .ensures) (s .st .given .1))
+add-count c = omega (arith, bounds (c .before .before))
 
 suits-requires : tie.Need-suits-requires Inv-loop μ-loop
 suits-requires c κs =
-    let s = c .before .before in
-    let t = s .before .before in
-    let b = turn-bounds (t .before .before .loop .inv .counting .gone) (t .next .ensures) (s .st .given .1) in
+    let b = bounds (c .before .before) in
     (search needs, omega arith, b .least)
 
 behind-requires : tie.Need-behind-requires Inv-loop μ-loop
-behind-requires c κs =
-    let s = c .before .before .before .before in
-    let t = s .before .before in
-    omega (arith, turn-bounds (t .before .before .loop .inv .counting .gone) (t .next .ensures) (s .st .given .1))
+behind-requires c κs = omega (arith, bounds (c .before .before .before .before))
 
 loop-less : tie.Need-loop-less Inv-loop μ-loop
-loop-less c =
-    let s = c .before .before .before .before .before in
-    let t = s .before .before in
-    let b = turn-bounds (t .before .before .loop .inv .counting .gone) (t .next .ensures) (s .st .given .1) in
-    rw (c .behind .ensures) (omega arith)
+loop-less c = let b = bounds (c .before .before .before .before .before) in rw (c .behind .ensures) (omega arith)
 
 loop-again : tie.Need-loop-again Inv-loop μ-loop
 loop-again c =

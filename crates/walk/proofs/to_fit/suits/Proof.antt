@@ -4,7 +4,7 @@ use mathlib.Core.Path.{ap}
 use native.Mathlib.Omega.{arith}
 use borrow.Author.Needs.{needs}
 use Rattle.rules.specs.declared.Addr.{Addr}
-use Rattle.walk.proofs.Candidates.{candidate-near, small-unsuited, past-unsuited, filled-suits, left-suits}
+use Rattle.walk.proofs.ToFit.{candidate-near, small-unsuited, past-unsuited, filled-suits, left-suits}
 use Rattle.walk.proofs.to_fit.suits.Statement.{statement}
 use Rattle.walk.proofs.to_fit.suits.Tie as tie
 

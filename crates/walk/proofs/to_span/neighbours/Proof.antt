@@ -7,7 +7,7 @@ use borrow.Author.Needs.{needs}
 use borrow.Author.Tests.{le-ltb}
 use Rattle.rules.specs.Fixed.{minSize}
 use Rattle.walk.specs.Walk.{isBeyond}
-use Rattle.walk.proofs.Turn.{turn-bounds}
+use Rattle.walk.proofs.Turn.{all, Bounds, turn-bounds}
 use Rattle.walk.proofs.Gathered.{Seeking, seeks, seeks-on}
 use Rattle.walk.proofs.ToSpan.{near-found, near-ended, near-broken}
 use Rattle.walk.proofs.to_span.neighbours.Statement.{statement}
@@ -19,6 +19,18 @@ Inv-loop h arena addr cursor₀ floor₀ total₀ cursor floor total =
 
 abbrev μ-loop : tie.MeasureT-loop
 μ-loop h arena addr cursor₀ floor₀ total₀ cursor floor total = h .top .0 + minSize - floor .0
+
+-- what a turn that found a hole leans on
+abbrev turn : tie.After-st Inv-loop μ-loop → tie.At-loop Inv-loop μ-loop
+turn c = c .before .before .before .before
+
+abbrev start : tie.After-st Inv-loop μ-loop → tie.Start Inv-loop μ-loop
+start c = turn c .before .before .before .before
+
+bounds : (c : tie.After-st Inv-loop μ-loop)
+    → Bounds (all (isBeyond (start c .args .addr)) (start c .args .h) (start c .args .arena .now))
+    (turn c .loop .floor) (turn c .loop .inv .1 .front) (c .st .given .0 .0)
+bounds c = turn-bounds (turn c .loop .inv .1 .counting .gone) (c .before .before .next .ensures) (c .st .given .1)
 
 first-floor-requires : tie.Need-first-floor-requires Inv-loop μ-loop
 first-floor-requires c κs = search needs
@@ -46,23 +58,13 @@ returns c =
     (c .before .before .match .keys2) (sym (c .before .is-end .ensures) ∙ c .if1 .left)
 
 add-total : tie.Need-add-total Inv-loop μ-loop
-add-total c =
-    let s = c .before .before .before .before .before in
-    let t = s .before .before in
-    omega (arith, turn-bounds (t .before .before .loop .inv .1 .counting .gone) (t .next .ensures) (s .st .given .1))
+add-total c = omega (arith, bounds (c .before .before .before .before .before))
 
 behind-requires : tie.Need-behind-requires Inv-loop μ-loop
-behind-requires c κs =
-    let s = c .before .before .before .before .before in
-    let t = s .before .before in
-    omega (arith, turn-bounds (t .before .before .loop .inv .1 .counting .gone) (t .next .ensures) (s .st .given .1))
+behind-requires c κs = omega (arith, bounds (c .before .before .before .before .before))
 
 loop-less : tie.Need-loop-less Inv-loop μ-loop
-loop-less c =
-    let s = c .before .before .before .before .before .before in
-    let t = s .before .before in
-    let b = turn-bounds (t .before .before .loop .inv .1 .counting .gone) (t .next .ensures) (s .st .given .1) in
-    rw (c .behind .ensures) (omega arith)
+loop-less c = let b = bounds (c .before .before .before .before .before .before) in rw (c .behind .ensures) (omega arith)
 
 loop-again : tie.Need-loop-again Inv-loop μ-loop
 loop-again c =
