@@ -14,7 +14,7 @@ fn refusal_numbers(r: Refusal) -> Told
 {
     match r {
         Refusal::BadOpening => Told(1, 0, 0),
-        Refusal::Opened => Told(2, 0, 0),
+        Refusal::AlreadyOpened => Told(2, 0, 0),
         Refusal::Unopened => Told(3, 0, 0),
         Refusal::OtherLength => Told(4, 0, 0),
         Refusal::NotSound => Told(5, 0, 0),
@@ -30,7 +30,7 @@ pub fn answer_numbers(a: Answer) -> Told
     ensures { λ t. ⌜ t ≡ told (answerNumbers a) ⌝ }
 {
     match a {
-        Answer::Opening { bottom, size } => Told(0, bottom.0, size),
+        Answer::Opened { bottom, size } => Told(0, bottom.0, size),
         Answer::Allocated { addr, count } => Told(0, addr.0, count),
         Answer::Freed { rounded, used } => Told(0, rounded, used),
         Answer::Extended { size, pending } => Told(0, size, pending),

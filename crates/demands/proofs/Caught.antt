@@ -9,7 +9,7 @@ use Rattle.rules.specs.declared.Addr.{Addr}
 use Rattle.rules.specs.declared.Hole.{Hole}
 use Rattle.rules.specs.declared.Heap.{Heap}
 use Rattle.rules.specs.declared.Refusal.{Refusal}
-use Rattle.rules.specs.declared.Refusal.the-variants.{Opened, OtherLength, NotSound}
+use Rattle.rules.specs.declared.Refusal.the-variants.{AlreadyOpened, OtherLength, NotSound}
 use Rattle.rules.specs.declared.Answer.the-variants.{Allocated, Refused}
 use Rattle.rules.specs.Kinds.{addr}
 use Rattle.rules.specs.Sound.{holes}
@@ -82,7 +82,7 @@ module _ (b : Behaviour) (sb : Statements b) where
         (λ k. (OtherLength, d .1 open′ .0 k))
 
     pub tested : (c : Call) → Fits c → (r : Refusal) × (b .outcome c h m ≡ refused r)
-    tested (opening base named) f = (Opened, sb .refusalsExactly (opening base named) h m f .0 open′)
+    tested (opening base named) f = (AlreadyOpened, sb .refusalsExactly (opening base named) h m f .0 open′)
     tested (change c) f = unsound (sb .refusalsExactly (change c) h m f)
     tested (report r) f = unsound (sb .refusalsExactly (report r) h m f)
 

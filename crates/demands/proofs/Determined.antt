@@ -7,9 +7,9 @@ use lib.ListN.{length}
 use Rattle.rules.specs.declared.Hole.{Hole}
 use Rattle.rules.specs.declared.Heap.{Heap}
 use Rattle.rules.specs.declared.Refusal.{Refusal}
-use Rattle.rules.specs.declared.Refusal.the-variants.{BadOpening, Opened, Unopened, OtherLength, NotSound, BadLayout, NoRoom, BadSpan, PastArena}
+use Rattle.rules.specs.declared.Refusal.the-variants.{BadOpening, AlreadyOpened, Unopened, OtherLength, NotSound, BadLayout, NoRoom, BadSpan, PastArena}
 use Rattle.rules.specs.declared.Answer.{Answer}
-use Rattle.rules.specs.declared.Answer.the-variants.{Opening, Allocated, Freed, Extended, Listed, Room, Refused}
+use Rattle.rules.specs.declared.Answer.the-variants.{Opened, Allocated, Freed, Extended, Listed, Room, Refused}
 use Rattle.rules.specs.Kinds.{addr, place}
 use Rattle.rules.specs.Changes.{Report}
 use Rattle.rules.specs.Calls.{Call, opening, change, report, list, room, Outcome, refused, told, done}
@@ -30,7 +30,7 @@ use Rattle.demands.proofs.Settles.{noRows, settled}
 module _ (b e : Behaviour) where
   refusal-same : RefusalNumbers b → RefusalNumbers e → (r : Refusal) → b .answerNumbers (Refused r) ≡ e .answerNumbers (Refused r)
   refusal-same p q BadOpening = p .one ∙ sym (q .one)
-  refusal-same p q Opened = p .two ∙ sym (q .two)
+  refusal-same p q AlreadyOpened = p .two ∙ sym (q .two)
   refusal-same p q Unopened = p .three ∙ sym (q .three)
   refusal-same p q OtherLength = p .four ∙ sym (q .four)
   refusal-same p q NotSound = p .five ∙ sym (q .five)
@@ -40,7 +40,7 @@ module _ (b e : Behaviour) where
   refusal-same p q PastArena = p .nine ∙ sym (q .nine)
 
   answer-same : Statements b → Statements e → (a : Answer) → b .answerNumbers a ≡ e .answerNumbers a
-  answer-same p q (Opening a n) = p .answerNumbers .opens a n ∙ sym (q .answerNumbers .opens a n)
+  answer-same p q (Opened a n) = p .answerNumbers .opens a n ∙ sym (q .answerNumbers .opens a n)
   answer-same p q (Allocated a n) = p .answerNumbers .allocates a n ∙ sym (q .answerNumbers .allocates a n)
   answer-same p q (Freed x y) = p .answerNumbers .frees x y ∙ sym (q .answerNumbers .frees x y)
   answer-same p q (Extended x y) = p .answerNumbers .extends x y ∙ sym (q .answerNumbers .extends x y)

@@ -9,7 +9,7 @@ use lib.ListN.{length, getD}
 use Rattle.rules.specs.declared.Addr.{Addr}
 use Rattle.rules.specs.declared.Hole.{Hole}
 use Rattle.rules.specs.declared.Refusal.the-variants.{OtherLength, NotSound}
-use Rattle.rules.specs.declared.Answer.the-variants.{Opening, Allocated, Freed, Extended, Listed, Room, Refused}
+use Rattle.rules.specs.declared.Answer.the-variants.{Opened, Allocated, Freed, Extended, Listed, Room, Refused}
 use Rattle.rules.specs.Kinds.{addr}
 use Rattle.rules.specs.Holes.{hole}
 use Rattle.rules.specs.Sound.{unopened}
@@ -87,13 +87,13 @@ frauds =
           let k = sb .refusalsKeep c h m noRows r (refused-of b sb c h m r f e) in
           n (k .1, k .2));
       openingDropsPending =
-          shut (leaving (Opening (addr 0x1008) 64) (λ c. unopened)) (λ base bottom named s h m made z e. refl)
+          shut (leaving (Opened (addr 0x1008) 64) (λ c. unopened)) (λ base bottom named s h m made z e. refl)
           (λ b f sb.
           let e = f (addr 0x1001) (addr 0x1008) 74 64 unopened stage (omega arith, stage-bytes) refl (saysOpen b sb) in
           let q = ap (λ (x : After). x .heap .pending) (does b sb opens unopened (omega arith)) in
           omega (arith, shown .rest, e, q));
       pendingInSize =
-          shut (leaving (Opening (addr 0x1008) 64) allBelow) (λ base bottom named s h m made z e. refl)
+          shut (leaving (Opened (addr 0x1008) 64) allBelow) (λ base bottom named s h m made z e. refl)
           (λ b f sb.
           let e = f (addr 0x1001) (addr 0x1008) 74 64 unopened stage (omega arith, stage-bytes) refl (saysOpen b sb) in
           let q = ap (λ (x : After). x .heap .top .0) (does b sb opens unopened (omega arith)) in

@@ -13,7 +13,7 @@ use Rattle.rules.specs.declared.Addr.{Addr}
 use Rattle.rules.specs.declared.Hole.{Hole}
 use Rattle.rules.specs.declared.Heap.{Heap}
 use Rattle.rules.specs.declared.Refusal.{Refusal}
-use Rattle.rules.specs.declared.Refusal.the-variants.{Opened, OtherLength}
+use Rattle.rules.specs.declared.Refusal.the-variants.{AlreadyOpened, OtherLength}
 use Rattle.rules.specs.Tests.{any}
 use Rattle.rules.specs.Kinds.{addr, same}
 use Rattle.rules.specs.Holes.{holesFrom}
@@ -94,7 +94,7 @@ module _ (c : Call) (n : ℕ) (b : Box) (h : Heap) (m w : List ℕ) (f : Follows
 
 -- a call that is lent memory of another length: it is refused before any hole matters
 abbrev elsewhere : Call → Refusal
-elsewhere c = cond (Opens c) Opened OtherLength
+elsewhere c = cond (Opens c) AlreadyOpened OtherLength
 
 decided-elsewhere : (c : Call) (n : ℕ) (h : Heap) (ks : List Hole) → (h .bottom .0 ≡ 0 → ⊥) → (n ≡ h .len → ⊥)
     → decided c n h ks ≡ refused (elsewhere c)

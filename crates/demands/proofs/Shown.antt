@@ -8,7 +8,7 @@ use lib.Count.{onesIn}
 use lib.ListN.{length, getD-replicate, List·getD-eq-default}
 use Rattle.rules.specs.declared.Heap.{Heap}
 use Rattle.rules.specs.declared.Answer.{Answer}
-use Rattle.rules.specs.declared.Answer.the-variants.{Opening, Allocated, Freed, Extended, Listed, Room}
+use Rattle.rules.specs.declared.Answer.the-variants.{Opened, Allocated, Freed, Extended, Listed, Room}
 use Rattle.rules.specs.Kinds.{addr}
 use Rattle.rules.specs.Words.{word, store}
 use Rattle.rules.specs.Holes.{hole, headAt, putHead, holesFrom, firstOf, putHeads, total, largest}
@@ -70,7 +70,7 @@ emptied = after freeing half stage
 -- ---- ours
 
 pub record Shown : Type 0 where
-  pub opening : after opens unopened stage .answer ≡ Opening (addr 0x1008) 64
+  pub opening : after opens unopened stage .answer ≡ Opened (addr 0x1008) 64
   pub rest : after opens unopened stage .heap .pending ≡ 3
   pub tops : after opens unopened stage .heap .top .0 ≡ 0x1048
   pub long : length stage ≡ 96
@@ -159,5 +159,5 @@ module _ (b : Behaviour) (sb : Statements b) where
       ap (λ (x : After). x .answer) (sym (same .after (allocate 16 16) (emptied .heap) (emptied .arena) (omega arith) bytes)) ∙ shown .again
 
   -- an opening
-  pub saysOpen : b .after opens unopened stage .answer ≡ Opening (addr 0x1008) 64
+  pub saysOpen : b .after opens unopened stage .answer ≡ Opened (addr 0x1008) 64
   saysOpen = says opens unopened (omega arith) (shown .opening)

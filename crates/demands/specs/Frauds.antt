@@ -10,7 +10,7 @@ use Rattle.rules.specs.declared.Hole.{Hole}
 use Rattle.rules.specs.declared.Heap.{Heap}
 use Rattle.rules.specs.declared.Refusal.{Refusal}
 use Rattle.rules.specs.declared.Refusal.the-variants.{OtherLength, NotSound}
-use Rattle.rules.specs.declared.Answer.the-variants.{Opening, Allocated, Freed, Extended, Listed, Room, Refused}
+use Rattle.rules.specs.declared.Answer.the-variants.{Opened, Allocated, Freed, Extended, Listed, Room, Refused}
 use Rattle.rules.specs.Kinds.{addr}
 use Rattle.rules.specs.Calls.{Call, opening, allocate, free, extend, list, room}
 use Rattle.rules.specs.InWords.{endOf, sum, Sound, number, Rounds, RoomAt, Within, Vacant}
@@ -100,14 +100,14 @@ pub record Frauds : Type 0 where
       Caught
       (λ b.
       (base bottom : Addr) (named s : ℕ) (h : Heap) (m : List ℕ) → Made (opening base named) m → h .bottom .0 ≡ 0
-      → b .after (opening base named) h m .answer ≡ Opening bottom s
+      → b .after (opening base named) h m .answer ≡ Opened bottom s
       → b .after (opening base named) h m .heap .pending ≡ 0)
   -- every opening adds pending bytes to size: all that is named lies below top
   pub pendingInSize :
       Caught
       (λ b.
       (base bottom : Addr) (named s : ℕ) (h : Heap) (m : List ℕ) → Made (opening base named) m → h .bottom .0 ≡ 0
-      → b .after (opening base named) h m .answer ≡ Opening bottom s
+      → b .after (opening base named) h m .answer ≡ Opened bottom s
       → b .after (opening base named) h m .heap .top .0 ≡ base .0 + named)
   -- an unopened heap has a first place that is not 0
   pub unopenedNotZero : Caught (λ b. b .unopened .first .0 ≡ 0 → ⊥)

@@ -8,9 +8,9 @@ use lib.Dec.{eqb}
 use lib.ListN.{length, getD}
 use Rattle.rules.specs.declared.Addr.{Addr}
 use Rattle.rules.specs.declared.Heap.{Heap}
-use Rattle.rules.specs.declared.Refusal.the-variants.{BadOpening, Opened, Unopened, OtherLength, BadLayout, NoRoom, BadSpan, PastArena}
+use Rattle.rules.specs.declared.Refusal.the-variants.{BadOpening, AlreadyOpened, Unopened, OtherLength, BadLayout, NoRoom, BadSpan, PastArena}
 use Rattle.rules.specs.declared.Answer.{Answer}
-use Rattle.rules.specs.declared.Answer.the-variants.{Opening, Allocated, Freed, Extended, Listed, Room, Refused}
+use Rattle.rules.specs.declared.Answer.the-variants.{Opened, Allocated, Freed, Extended, Listed, Room, Refused}
 use Rattle.rules.specs.Tests.{any}
 use Rattle.rules.specs.Round.{Below}
 use Rattle.rules.specs.Kinds.{addr}
@@ -67,8 +67,8 @@ abbrev pub replies : List Told
 replies =
     reply (Refused Unopened)
     ∷ reply (Refused BadOpening)
-    ∷ reply (Opening (addr 0x1008) 64)
-    ∷ reply (Refused Opened)
+    ∷ reply (Opened (addr 0x1008) 64)
+    ∷ reply (Refused AlreadyOpened)
     ∷ reply (Allocated (addr 0x1008) 1)
     ∷ reply (Allocated (addr 0x1018) 1)
     ∷ reply (Freed 16 24)

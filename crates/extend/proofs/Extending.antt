@@ -14,23 +14,20 @@ use Rattle.rules.specs.Holes.{hole, firstOf}
 use Rattle.rules.specs.Sound.{size, soundHoles, holes}
 use Rattle.rules.specs.Free.{freed}
 use Rattle.rules.specs.Calls.{grown, gathered, extended}
-use Rattle.rules.specs.declared.Addr.{Addr}
 use Rattle.rules.specs.declared.Hole.{Hole}
 use Rattle.rules.specs.declared.Heap.{Heap}
 use Rattle.rules.specs.declared.Decided.{Decided}
 use Rattle.rules.specs.declared.Refusal.the-variants.{PastArena}
 use Rattle.rules.specs.declared.Answer.the-variants.{Extended}
 use Rattle.rules.specs.Inner.{put, nothing, written, refusing, Relinks, Decides, Fair, behind, extending}
-use Rattle.rules.proofs.Cases.{both}
 use Rattle.rules.proofs.Walk.{rules-keep, walks}
 use Rattle.rules.proofs.Rises.{rises-back, sound-rises}
 use Rattle.rules.proofs.Lists.{heads-to}
 use Rattle.rules.proofs.Relink.{put-same}
 use Rattle.rules.proofs.Written.{decides-refused, decides-changed, decides-sound}
-use Rattle.walk.specs.Walk.{startOf, nearOf, lastPlace}
+use Rattle.walk.specs.Walk.{startOf, lastPlace}
 use Rattle.walk.specs.Settled.{Ready, Settled}
 use Rattle.walk.specs.declared.Near.{Near}
-use Rattle.walk.specs.declared.Spot.the-variants as spot
 use Rattle.walk.proofs.ToEnd.{by-walk}
 use Rattle.walk.proofs.Stands.{stands}
 use Rattle.walk.proofs.ToSpan.{Lies}

@@ -23,7 +23,7 @@ use Rattle.rules.specs.Answers.{refusalNumbers, answerNumbers}
 use Rattle.rules.specs.Outcome.{decided, outcome, leaves, after, Rows, over, inRows, leavesRows}
 use Rattle.rules.proofs.Cases.{by-test, apart, or-left}
 use Rattle.rules.proofs.Walk.{sound-fair, sound-count}
-use Rattle.rules.proofs.Passes.{by-change}
+use Rattle.rules.proofs.Passes.{by-change, by-decided}
 use Rattle.lines.specs.Wire.{numbersLine, holeLines, spoken}
 
 -- the holes that an outcome prints
@@ -39,19 +39,6 @@ unfolding spoken leaves answerNumbers holeLines shown
 spoken-is h m (refused r) = sym (append-nil (numbersLine (refusalNumbers r)))
 spoken-is h m (told a ks) = refl
 spoken-is h m (done a h′ ks) = sym (append-nil (numbersLine (answerNumbers a)))
-
--- ---- what is decided: a refusal, or what is left once every test fails
-
-abbrev Fails : List Test → Type 0
-Fails [] = Unit {0}
-Fails (t ∷ ts) = (any (t .«exactly-if») ≡ false) × Fails ts
-
-by-tests : (P : Outcome → Type 0) (ts : List Test) (o : Outcome) → ((r : Refusal) → P (refused r)) → (Fails ts → P o)
-    → P (unless ts o)
-unfolding unless
-by-tests P [] o f g = g tt
-by-tests P (t ∷ ts) o f g =
-    by-test P (any (t .«exactly-if»)) _ _ (λ e. f (t .gives)) (λ e. by-tests P ts o f (λ p. g (e, p)))
 
 -- ---- the calls that print one line
 
@@ -70,28 +57,22 @@ accepted-shown (report Report.list) len h ks e = apart refl e
 accepted-shown (report Report.room) len h ks e = refl
 
 call-shown : (c : Call) (h : Heap) (m : List ℕ) → lists c ≡ false → shown (outcome c h m) ≡ []
-unfolding outcome decided shown
+unfolding outcome shown
 call-shown c h m e =
-    let ks = holes h m in
-    by-tests (λ o. shown o ≡ []) (tests c (length m) h ks) (accepted c (length m) h ks) (λ r. refl)
-    (λ p. accepted-shown c (length m) h ks e)
+    by-decided (λ o. shown o ≡ []) c (length m) h (holes h m) (λ r. refl) (λ p. accepted-shown c (length m) h (holes h m) e)
 
 pub spoken-line : (c : Call) (h : Heap) (m : List ℕ) → lists c ≡ false
     → spoken (outcome c h m) ≡ numbersLine (answerNumbers (after c h m .answer))
 unfolding after holeLines
 spoken-line c h m e = spoken-is h m (outcome c h m) ∙ rw (call-shown c h m e) (append-nil _)
 
--- ---- the two reports change nothing
+-- ---- a report changes nothing
 
-pub list-stays : (h : Heap) (m : List ℕ) → (h ≡ after list h m .heap) × (m ≡ after list h m .arena)
-unfolding after outcome decided tests accepted leaves
-list-stays h m =
-    by-tests (λ o. (h ≡ leaves h m o .heap) × (m ≡ leaves h m o .arena)) _ _ (λ r. (refl, refl)) (λ p. (refl, refl))
-
-pub room-stays : (h : Heap) (m : List ℕ) → (h ≡ after room h m .heap) × (m ≡ after room h m .arena)
-unfolding after outcome decided tests accepted leaves
-room-stays h m =
-    by-tests (λ o. (h ≡ leaves h m o .heap) × (m ≡ leaves h m o .arena)) _ _ (λ r. (refl, refl)) (λ p. (refl, refl))
+pub report-stays : (r : Report) (h : Heap) (m : List ℕ) → (h ≡ after (report r) h m .heap) × (m ≡ after (report r) h m .arena)
+unfolding after outcome accepted leaves
+report-stays r h m =
+    by-decided (λ o. (h ≡ leaves h m o .heap) × (m ≡ leaves h m o .arena)) (report r) (length m) h (holes h m)
+    (λ x. (refl, refl)) (λ p. (refl, refl))
 
 -- ---- the list
 
@@ -99,7 +80,7 @@ room-stays h m =
 refusal-one : (r : Refusal) → refusalNumbers r .one ≡ 0
 unfolding refusalNumbers
 refusal-one no.BadOpening = refl
-refusal-one no.Opened = refl
+refusal-one no.AlreadyOpened = refl
 refusal-one no.Unopened = refl
 refusal-one no.OtherLength = refl
 refusal-one no.NotSound = refl
@@ -130,10 +111,10 @@ told-listing h m bytes ks few = record { count = refl; few = few; rows = λ rs. 
 
 -- where the list is not refused, the tests have shown that the arena has the heap's length, and that the heap is sound
 pub listing : (h : Heap) (m : List ℕ) → Listing h m (outcome list h m)
-unfolding outcome decided tests accepted
+unfolding outcome tests accepted
 listing h m =
     let ks = holes h m in
-    by-tests (Listing h m) _ _ (refused-listing h m)
+    by-decided (Listing h m) list (length m) h ks (refused-listing h m)
     (λ (unopened, (lent, (numbers, (its, behind)))).
     told-listing h m _ ks
     (sound-few h ks (eqb-true (length m) (h .len) (not-false (eqb (length m) (h .len)) (or-left _ _ lent)))

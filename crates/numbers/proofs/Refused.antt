@@ -20,7 +20,7 @@ pub record Openable (len : ℕ) (base : Addr) (named : ℕ) : Type 0 where
   pub room : bytesTo base (raised grain base) + minSize ≤ named
 
 module _ (len : ℕ) (base : Addr) (named : ℕ) where
-  may-open : any (refusal1 len base named) ≡ false → Openable len base named
+  pub may-open : any (refusal1 len base named) ≡ false → Openable len base named
   may-open e = let r = any-each (refusal1 len base named) e in omega (arith, ltb-false, eqb-false (base .0) 0 (r .0))
 
   open-may : Openable len base named → any (refusal1 len base named) ≡ false

@@ -1,6 +1,4 @@
--- The laws that the proofs of this crate share, by subject.
+-- The laws that the proofs of this crate share.
 
--- the numbers of an opening
-mod Opened
--- what an opening comes to
-mod Begun
+-- what an opening comes to, by the tests that it makes
+pub mod Begun

@@ -91,7 +91,7 @@ pub fn decide(h: Heap, len: u64, base: Addr, named: u64) -> Decided
     ensures { λ d. ⌜ ((m : List ℕ) → length m ≡ len → Decides (after (Calls.opening base named) h m) m d) ⌝ }
 {
     if h.bottom.0 != 0 {
-        return refuse(h, Refusal::Opened);
+        return refuse(h, Refusal::AlreadyOpened);
     }
     if bad_opening(len, base, named) {
         return refuse(h, Refusal::BadOpening);
@@ -101,7 +101,7 @@ pub fn decide(h: Heap, len: u64, base: Addr, named: u64) -> Decided
     let size = heap.top.0 - bottom.0;
     Decided {
         heap,
-        answer: Answer::Opening { bottom, size },
+        answer: Answer::Opened { bottom, size },
         heads: Writes {
             one: only_hole(heap),
             two: nothing(),

@@ -20,9 +20,8 @@ use Rattle.walk.proofs.Step as Steps
 use Rattle.walk.proofs.Turn.{all-end, all-break}
 use Rattle.walk.proofs.ToEnd.{by-end, by-break}
 use Rattle.walk.proofs.Gathered.{Counting}
-use Rattle.reports.specs.Reports.{endsSound, surveyOf, countOf}
+use Rattle.reports.specs.Reports.{endsSound, surveyOf}
 use Rattle.reports.specs.declared.Survey.the-variants as survey
-use Rattle.reports.specs.declared.Count.the-variants as count
 use lib.ListN.{length}
 use Rattle.rules.specs.Holes.{largest}
 use Rattle.rules.specs.Calls.{Call, refused, told, list, room}
@@ -39,7 +38,6 @@ use Rattle.numbers.specs.declared.Checked.{Checked}
 use Rattle.numbers.specs.declared.Checked.the-variants.{No}
 use Rattle.numbers.proofs.Verdicts.{Tested, refuses-call}
 use Rattle.reports.specs.declared.Survey.{Survey}
-use Rattle.reports.specs.declared.Count.{Count}
 
 largest-more : (front : List Hole) (k : Hole) → Holes.largest (front ++ (k ∷ [])) ≡ max (Holes.largest front) (k .size)
 unfolding Holes.largest
@@ -66,23 +64,13 @@ module _ {h : Heap} {m : List ℕ} {at : Place} {floor : Addr} {total n : ℕ} {
         (λ e. by-end never h m (c .gone .fair) (all-end (c .gone) is e) .0)
         (λ e. apart (rw e at y) refl)
 
-    module _ (y : endsSound h st total ≡ true) where
-      pub surveyed : {g : ℕ} → g ≡ Holes.largest front → survey.Of n g ≡ surveyOf h (holes h m)
-      unfolding surveyOf
-      surveyed e = rw (← decides, y, passed y, c .counted, e)
+    pub surveyed : endsSound h st total ≡ true → {g : ℕ} → g ≡ Holes.largest front → survey.Of n g ≡ surveyOf h (holes h m)
+    unfolding surveyOf
+    surveyed y e = rw (← decides, y, passed y, c .counted, e)
 
-      pub counted : count.Of n ≡ countOf h (holes h m)
-      unfolding countOf
-      counted = rw (← decides, y, passed y, c .counted)
-
-    module _ (y : endsSound h st total ≡ false) where
-      pub survey-broken : survey.Bad ≡ surveyOf h (holes h m)
-      unfolding surveyOf
-      survey-broken = rw (← decides, y)
-
-      pub count-broken : count.Bad ≡ countOf h (holes h m)
-      unfolding countOf
-      count-broken = rw (← decides, y)
+    pub survey-broken : endsSound h st total ≡ false → survey.Bad ≡ surveyOf h (holes h m)
+    unfolding surveyOf
+    survey-broken y = rw (← decides, y)
 
 module _ (h : Heap) (m : List ℕ) where
   -- what was gathered of holes that keep every rule; else it is refused
@@ -97,17 +85,6 @@ module _ (h : Heap) (m : List ℕ) where
   pub survey-says : {v w : Survey} → v ≡ surveyOf h (holes h m) → v ≡ w → Surveyed w
   survey-says is e = rw (sym is ∙ e) at surveys
 
-  abbrev Counted : Count → Type 0
-  Counted (count.Of n) = (soundHoles h (holes h m) ≡ true) × (n ≡ length (holes h m))
-  Counted count.Bad = soundHoles h (holes h m) ≡ false
-
-  counts : Counted (countOf h (holes h m))
-  unfolding countOf
-  counts = by-test Counted (soundHoles h (holes h m)) _ _ (λ e. (e, refl)) (λ e. e)
-
-  pub count-says : {v w : Count} → v ≡ countOf h (holes h m) → v ≡ w → Counted w
-  count-says is e = rw (sym is ∙ e) at counts
-
   pub report-no : (c : Call) → Opens c ≡ false → {len : ℕ} {v : Checked} {r : Refusal} → len ≡ length m → v ≡ checkedOf len h → v ≡ No r
       → outcome c h m ≡ refused r
   report-no c later l is e = refuses-call c h m later (rw l at (sym is ∙ e))
@@ -119,7 +96,7 @@ module _ (h : Heap) (m : List ℕ) where
     pub room-told : {n g : ℕ} → Surveyed (survey.Of n g) → outcome room h m ≡ told (Room g n) []
     room-told s = room-on h m (t .lent .lent) (t .numbers) ∙ sifted-sound h (holes h m) _ (s .0) ∙ rw (s .1, s .2)
 
-    pub list-told : {n : ℕ} → Counted (count.Of n) → outcome list h m ≡ told (Listed n (size h - h .used)) (holes h m)
+    pub list-told : {n g : ℕ} → Surveyed (survey.Of n g) → outcome list h m ≡ told (Listed n (size h - h .used)) (holes h m)
     list-told s = list-on h m (t .lent .lent) (t .numbers) ∙ sifted-sound h (holes h m) _ (s .0) ∙ rw (s .1)
 
   -- used is a part of size, the rest of which is free

@@ -12,8 +12,6 @@ use Rattle.walk.specs.Walk.{isEnd}
 use Rattle.walk.specs.declared.Step.{Step}
 use Rattle.reports.specs.declared.Survey.{Survey}
 use Rattle.reports.specs.declared.Survey.the-variants as survey
-use Rattle.reports.specs.declared.Count.{Count}
-use Rattle.reports.specs.declared.Count.the-variants as count
 
 -- a pass whose last step found no hole kept every rule, and the sum of the sizes is size − used
 unfoldable pub endsSound : Heap → Step → ℕ → Bool
@@ -21,6 +19,3 @@ endsSound h st total = cond (isEnd st) (eqb (total + h .used) (size h)) false
 
 unfoldable pub surveyOf : Heap → List Hole → Survey
 surveyOf h ks = cond (soundHoles h ks) (survey.Of (length ks) (largest ks)) survey.Bad
-
-unfoldable pub countOf : Heap → List Hole → Count
-countOf h ks = cond (soundHoles h ks) (count.Of (length ks)) count.Bad

@@ -1,5 +1,4 @@
 // What a report gathers of the holes in one pass, which also tests every rule on them.
-use crate::Count;
 use crate::Survey;
 use rules::Heap;
 use walk::Step;
@@ -12,7 +11,7 @@ ghost use mathlib.Core.Path.{_≡_};
 ghost use Prim.Native.Nat.{max};
 ghost use Rattle.rules.specs.Sound.{holes};
 ghost use Rattle.rules.specs.Inner.{Fair, Lent};
-ghost use Rattle.reports.specs.Reports.{endsSound, surveyOf, countOf};
+ghost use Rattle.reports.specs.Reports.{endsSound, surveyOf};
 
 // The pass has come to the end, and the sum of the sizes is size − used.
 fn ends_sound(h: Heap, st: Step, total: u64) -> bool
@@ -53,30 +52,6 @@ pub fn survey(h: Heap, arena: &[u8]) -> Survey
         total += hole.size;
         count += 1;
         largest = larger(largest, hole.size);
-        floor = behind(hole);
-        at = next;
-    }
-}
-
-// The number of holes.
-pub fn count_holes(h: Heap, arena: &[u8]) -> Count
-    requires { ⌜ Lent h (now arena) ⌝ }
-    ensures { λ r. ⌜ r ≡ countOf h (holes h (now (arena .entry))) ⌝ }
-{
-    let mut at = h.first;
-    let mut floor = first_floor(h);
-    let mut total: u64 = 0;
-    let mut count: u64 = 0;
-    loop {
-        let st = next(h, arena, at, floor);
-        let Step::At(hole, next) = st else {
-            if ends_sound(h, st, total) {
-                return Count::Of(count);
-            }
-            return Count::Bad;
-        };
-        total += hole.size;
-        count += 1;
         floor = behind(hole);
         at = next;
     }

@@ -3,7 +3,6 @@ mod filling;
 mod gathering;
 
 use filling::fill;
-use gathering::count_holes;
 use gathering::survey;
 use hole::arena_len;
 use numbers::Checked;
@@ -16,15 +15,9 @@ ghost use mathlib.Core.Path.{_≡_};
 ghost use Rattle.rules.specs.Calls as Calls;
 ghost use Rattle.rules.specs.Outcome.{after, rows, rowsAfter};
 
-// What room gathers of the holes: their number and the largest, or that a rule is broken.
+// What a report gathers of the holes: their number and the largest, or that a rule is broken.
 pub enum Survey {
     Of { count: u64, largest: u64 },
-    Bad,
-}
-
-// What list gathers of them: their number, or that a rule is broken.
-pub enum Count {
-    Of(u64),
     Bad,
 }
 
@@ -55,8 +48,8 @@ pub fn list(h: Heap, arena: &[u8], addrs: &mut [u64], sizes: &mut [u64]) -> Answ
     if let Checked::No(r) = checked {
         return Answer::Refused(r);
     }
-    let found = count_holes(h, arena);
-    let Count::Of(count) = found else {
+    let found = survey(h, arena);
+    let Survey::Of { count, largest: _ } = found else {
         return Answer::Refused(Refusal::NotSound);
     };
     fill(h, arena, addrs, sizes);

@@ -10,12 +10,11 @@ use borrow.Author.Tests.{eq-eqb, ne-eqb}
 use Rattle.rules.specs.declared.Addr.{Addr}
 use Rattle.rules.specs.declared.Hole.{Hole}
 use Rattle.rules.specs.declared.Heap.{Heap}
-use Rattle.rules.specs.declared.Done.{Done}
 use Rattle.rules.specs.declared.Refusal.{Refusal}
-use Rattle.rules.specs.declared.Refusal.the-variants.{BadOpening, Opened, Unopened, OtherLength, NotSound, BadLayout}
+use Rattle.rules.specs.declared.Refusal.the-variants.{BadOpening, AlreadyOpened, Unopened, OtherLength, NotSound, BadLayout}
 use Rattle.rules.specs.declared.Layout.the-variants.{Rounded, Bad}
 use Rattle.rules.specs.declared.Answer.{Answer}
-use Rattle.rules.specs.declared.Answer.the-variants.{Opening, Listed, Room, Refused}
+use Rattle.rules.specs.declared.Answer.the-variants.{Opened, Listed, Room, Refused}
 use Rattle.rules.specs.Fixed.{grain}
 use Rattle.rules.specs.Tests.{any}
 use Rattle.rules.specs.Kinds.{raised}
@@ -25,7 +24,7 @@ use Rattle.rules.specs.Allocate.{find}
 use Rattle.rules.specs.Changes.{Change}
 use Rattle.rules.specs.Calls.{Call, opening, change, allocate, free, extend, list, room, Outcome, refused, told, done, onlyHole, opened, taken, accepted}
 use Rattle.rules.specs.Refusals.{Test, test, refusal1, refusal6, layoutOf, openedTests, changeTests, tests, unless}
-use Rattle.rules.specs.Outcome.{decided, outcome, leaves, after, Is, Rows, inRows, leavesRows, rowsAfter}
+use Rattle.rules.specs.Outcome.{decided, outcome, leaves, after, Rows, inRows, leavesRows, rowsAfter}
 use Rattle.rules.specs.Inner.{sifted, freeing, extending}
 use Rattle.rules.proofs.Cases.{cases}
 use Rattle.rules.proofs.Layouts.{layout-refused, layout-granted}
@@ -35,11 +34,6 @@ use Rattle.rules.proofs.Decide.{unless-3, unless-4, unless-5, unless-fa
 -- ---- what an outcome leaves
 
 module _ (c : Call) (h : Heap) (m : List ℕ) where
-  -- a call that hands back what its outcome leaves does what the definition says
-  pub is-left : (o : Outcome) {d : Done} {m′ : List ℕ} → outcome c h m ≡ o → Is (leaves h m o) d m′ → Is (after c h m) d m′
-  unfolding after
-  is-left o e p = rw e p
-
   pub answer-refused : (r : Refusal) → outcome c h m ≡ refused r → after c h m .answer ≡ Refused r
   unfolding after leaves
   answer-refused r e = rw e
@@ -131,7 +125,7 @@ module _ (h : Heap) (m : List ℕ) (lent : length m ≡ h .len) (fair : soundNum
 -- ---- open
 
 module _ (base : Addr) (named : ℕ) (h : Heap) (m : List ℕ) where
-  pub opening-2 : (h .bottom .0 ≡ 0 → ⊥) → outcome (opening base named) h m ≡ refused Opened
+  pub opening-2 : (h .bottom .0 ≡ 0 → ⊥) → outcome (opening base named) h m ≡ refused AlreadyOpened
   unfolding outcome decided tests unless
   opening-2 n = rw (ne-eqb (h .bottom .0) 0 n)
 
@@ -141,6 +135,6 @@ module _ (base : Addr) (named : ℕ) (h : Heap) (m : List ℕ) where
 
   pub opening-on : h .bottom .0 ≡ 0 → any (refusal1 (length m) base named) ≡ false
       → outcome (opening base named) h m
-      ≡ done (Opening (raised grain base) (onlyHole base named .size)) (opened (length m) base named) (onlyHole base named ∷ [])
+      ≡ done (Opened (raised grain base) (onlyHole base named .size)) (opened (length m) base named) (onlyHole base named ∷ [])
   unfolding outcome decided tests unless accepted
   opening-on z e = rw (eq-eqb (h .bottom .0) 0 z, e)

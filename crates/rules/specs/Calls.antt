@@ -10,7 +10,7 @@ use Rattle.rules.specs.declared.Heap.{Heap}
 use Rattle.rules.specs.declared.Refusal.{Refusal}
 use Rattle.rules.specs.declared.Refusal.the-variants.{NoRoom}
 use Rattle.rules.specs.declared.Answer.{Answer}
-use Rattle.rules.specs.declared.Answer.the-variants.{Opening, Allocated, Freed, Extended, Listed, Room}
+use Rattle.rules.specs.declared.Answer.the-variants.{Opened, Allocated, Freed, Extended, Listed, Room}
 use Rattle.rules.specs.Fixed.{minSize, grain}
 use Rattle.rules.specs.Round.{downTo}
 use Rattle.rules.specs.Kinds.{plus, bytesTo, raised}
@@ -143,7 +143,7 @@ listed Report.room ks = []
 -- an accepted call on a heap and its holes, lent len bytes
 unfoldable pub accepted : Call → ℕ → Heap → List Hole → Outcome
 accepted (opening base named) len h ks =
-    done (Opening (raised grain base) (onlyHole base named .size)) (opened len base named) (onlyHole base named ∷ [])
+    done (Opened (raised grain base) (onlyHole base named .size)) (opened len base named) (onlyHole base named ∷ [])
 accepted (change (Change.allocate s align)) len h ks = taken (rounded s) align h ks (find (rounded s) align ks)
 accepted (change (Change.free a s align)) len h ks = given (rounded s) a h ks
 accepted (change (Change.extend by)) len h ks = extended by h ks

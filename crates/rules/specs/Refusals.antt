@@ -8,7 +8,7 @@ use Rattle.rules.specs.declared.Addr.{Addr}
 use Rattle.rules.specs.declared.Hole.{Hole}
 use Rattle.rules.specs.declared.Heap.{Heap}
 use Rattle.rules.specs.declared.Refusal.{Refusal}
-use Rattle.rules.specs.declared.Refusal.the-variants.{BadOpening, Opened, Unopened, OtherLength, NotSound, BadLayout, BadSpan, PastArena}
+use Rattle.rules.specs.declared.Refusal.the-variants.{BadOpening, AlreadyOpened, Unopened, OtherLength, NotSound, BadLayout, BadSpan, PastArena}
 use Rattle.rules.specs.declared.Layout.{Layout}
 use Rattle.rules.specs.declared.Layout.the-variants.{Rounded, Bad}
 use Rattle.rules.specs.Fixed.{arenaLimit, addrLimit, minSize, grain, width}
@@ -110,7 +110,7 @@ changeTests (Change.extend by) h ks = test PastArena (refusal9 by h) ∷ []
 
 -- open tests 2, then 1; the rest test in rising order
 unfoldable pub tests : Call → ℕ → Heap → List Hole → List Test
-tests (opening base named) len h ks = test Opened (refusal2 h) ∷ test BadOpening (refusal1 len base named) ∷ []
+tests (opening base named) len h ks = test AlreadyOpened (refusal2 h) ∷ test BadOpening (refusal1 len base named) ∷ []
 tests (change c) len h ks = openedTests len h ks ++ changeTests c h ks
 tests (report r) len h ks = openedTests len h ks
 

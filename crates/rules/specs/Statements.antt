@@ -12,9 +12,9 @@ use Rattle.rules.specs.declared.Hole.{Hole}
 use Rattle.rules.specs.declared.Heap.{Heap}
 use Rattle.rules.specs.declared.Done.{Done}
 use Rattle.rules.specs.declared.Refusal.{Refusal}
-use Rattle.rules.specs.declared.Refusal.the-variants.{BadOpening, Opened, Unopened, OtherLength, NotSound, BadLayout, NoRoom, BadSpan, PastArena}
+use Rattle.rules.specs.declared.Refusal.the-variants.{BadOpening, AlreadyOpened, Unopened, OtherLength, NotSound, BadLayout, NoRoom, BadSpan, PastArena}
 use Rattle.rules.specs.declared.Answer.{Answer}
-use Rattle.rules.specs.declared.Answer.the-variants.{Opening, Allocated, Freed, Extended, Listed, Room, Refused}
+use Rattle.rules.specs.declared.Answer.the-variants.{Opened, Allocated, Freed, Extended, Listed, Room, Refused}
 use Rattle.rules.specs.Round.{Below}
 use Rattle.rules.specs.Kinds.{addr, place}
 use Rattle.rules.specs.Holes.{hole}
@@ -90,7 +90,7 @@ changeRows b (Change.extend by) h m = row PastArena (h .base .0 + h .len < h .to
 
 abbrev pub refusalsOf : Behaviour → Call → Heap → List ℕ → List Row
 refusalsOf b (opening base named) h m =
-    row Opened (h .bottom .0 ≡ 0 → ⊥) ∷ row BadOpening (NoStart (length m) (base .0) named) ∷ []
+    row AlreadyOpened (h .bottom .0 ≡ 0 → ⊥) ∷ row BadOpening (NoStart (length m) (base .0) named) ∷ []
 refusalsOf b (change c) h m = openedRows b h m ++ changeRows b c h m
 refusalsOf b (report r) h m = openedRows b h m
 
@@ -106,7 +106,7 @@ RefusalsKeep b =
 -- and carries its number and zeros, 7 its count
 pub record RefusalNumbers (b : Behaviour) : Type 0 where
   pub one : b .answerNumbers (Refused BadOpening) ≡ numbers 1 0 0
-  pub two : b .answerNumbers (Refused Opened) ≡ numbers 2 0 0
+  pub two : b .answerNumbers (Refused AlreadyOpened) ≡ numbers 2 0 0
   pub three : b .answerNumbers (Refused Unopened) ≡ numbers 3 0 0
   pub four : b .answerNumbers (Refused OtherLength) ≡ numbers 4 0 0
   pub five : b .answerNumbers (Refused NotSound) ≡ numbers 5 0 0
@@ -117,7 +117,7 @@ pub record RefusalNumbers (b : Behaviour) : Type 0 where
 
 -- an accepted call's number is 0, with its two values
 pub record AnswerNumbers (b : Behaviour) : Type 0 where
-  pub opens : (a : Addr) (n : ℕ) → b .answerNumbers (Opening a n) ≡ numbers 0 (a .0) n
+  pub opens : (a : Addr) (n : ℕ) → b .answerNumbers (Opened a n) ≡ numbers 0 (a .0) n
   pub allocates : (a : Addr) (n : ℕ) → b .answerNumbers (Allocated a n) ≡ numbers 0 (a .0) n
   pub frees : (x y : ℕ) → b .answerNumbers (Freed x y) ≡ numbers 0 x y
   pub extends : (x y : ℕ) → b .answerNumbers (Extended x y) ≡ numbers 0 x y
@@ -170,7 +170,7 @@ abbrev pub OpenDoes : Behaviour → Type 0
 OpenDoes b =
     (h : Heap) (m : List ℕ) (base named bottom s : ℕ) → h .bottom .0 ≡ 0 → (NoStart (length m) base named → ⊥) → Left base named bottom s
     → b .outcome (opening (addr base) named) h m
-    ≡ done (Opening (addr bottom) s)
+    ≡ done (Opened (addr bottom) s)
     (record {
       base = addr base;
       len = length m;

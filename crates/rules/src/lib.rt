@@ -49,7 +49,7 @@ pub enum Refusal {
     // 1: no heap can be made of what was lent.
     BadOpening,
     // 2: bottom is not 0.
-    Opened,
+    AlreadyOpened,
     // 3: bottom is 0.
     Unopened,
     // 4: the arena's length differs from that at opening.
@@ -68,12 +68,19 @@ pub enum Refusal {
 
 // What a call answers: two values of its own, or a refusal.
 pub enum Answer {
-    Opening { bottom: Addr, size: u64 },
+    // Open: where the heap begins, and how many bytes it deals out.
+    Opened { bottom: Addr, size: u64 },
+    // Allocate: the block's address, and how many holes were looked at, the used one included.
     Allocated { addr: Addr, count: u64 },
+    // Free: the rounded size that was given back, and what is still held.
     Freed { rounded: u64, used: u64 },
+    // Extend: the bytes that the heap deals out now, and those that wait behind top.
     Extended { size: u64, pending: u64 },
+    // List: how many holes there are, and the bytes in them.
     Listed { holes: u64, free: u64 },
+    // Room: the size of the largest hole, 0 if none, and how many there are.
     Room { largest: u64, holes: u64 },
+    // Any call: the paper's number and why.
     Refused(Refusal),
 }
 

@@ -7,14 +7,15 @@ use Rattle.rules.specs.Kinds.{raised}
 use Rattle.rules.specs.Holes.{firstOf}
 use Rattle.rules.specs.Calls.{opened}
 use Rattle.rules.proofs.Powers.{grain-power}
-use Rattle.open.proofs.Opened.{Opens, opens, is-bottom}
+use Rattle.numbers.proofs.Refused.{Openable, may-open}
+use Rattle.open.proofs.Begun.{is-bottom}
 use Rattle.open.proofs.new.Statement.{statement}
 use Rattle.open.proofs.new.Tie as tie
 
 -- ---- what is known from the start, and once bottom is known
 
-bounds : (s : tie.Start) → Opens (s .args .len) (s .args .base) (s .args .named)
-bounds s = opens (s .args .len) (s .args .base) (s .args .named) (s .pre)
+bounds : (s : tie.Start) → Openable (s .args .len) (s .args .base) (s .args .named)
+bounds s = may-open (s .args .len) (s .args .base) (s .args .named) (s .pre)
 
 bottom : (c : tie.After-align-up) → c .align-up .result ≡ raised grain (c .before .args .base)
 bottom c = is-bottom (c .before .args .base) _ (c .align-up .ensures)
@@ -42,7 +43,7 @@ add-t9 : tie.Need-add-t9
 add-t9 c =
     let a = c .before .before .before .before in
     let o = bounds (a .before) in
-    rw (bottom a) (omega (arith, o .room, o .fits, o .low))
+    rw (bottom a) (omega (arith, o .room, o .within, o .low))
 
 returns : tie.Need-returns
 unfolding opened firstOf

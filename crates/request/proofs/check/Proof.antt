@@ -2,8 +2,6 @@
 use mathlib.Core.Path.{_≡_, sym, _∙_}
 use borrow.Author.Needs.{needs}
 use lib.ListN.{length}
-use Rattle.rules.specs.Refusals.{layoutOf}
-use Rattle.rules.specs.Inner.{Lent}
 use Rattle.numbers.specs.Checks.{checkedOf}
 use Rattle.numbers.specs.declared.Checked.the-variants as checked
 use Rattle.numbers.proofs.Verdicts.{Tested, tested, tested-fair}

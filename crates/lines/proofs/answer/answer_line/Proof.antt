@@ -1,11 +1,12 @@
 -- `lines::answer::answer_line` meets its contract: a frame is a call, and what the call prints and leaves is what the line comes to.
 -- Assumes nothing.
 use mathlib.Core.Path.{_≡_, refl, sym, ap, _∙_}
+use Rattle.rules.specs.Changes.{Report}
 use Rattle.rules.specs.Calls.{opening, allocate, free, extend, room}
 use Rattle.lines.specs.Wire.{reply, replied}
 use Rattle.lines.specs.declared.reading.Frame.{Frame}
 use Rattle.lines.proofs.Placed.{line-front}
-use Rattle.lines.proofs.Spoken.{room-stays}
+use Rattle.lines.proofs.Spoken.{report-stays}
 use Rattle.lines.proofs.Answered.{replied-line, replied-list}
 use borrow.Author.Needs.{needs}
 use Rattle.lines.proofs.answer.answer_line.Statement.{statement}
@@ -136,7 +137,7 @@ returns-6 c =
     let f = called .before .before .before in
     let k = f .before .before in
     let s = start k .args in
-    let y = room-stays (s .h) (s .arena .now) in
+    let y = report-stays Report.room (s .h) (s .arena .now) in
     replied-line room (s .h) (s .arena .now) (c .tell5 .result) (c .tell5 .last .0) (comes-to k (f .enum-told2 .given .1)) refl
     (called .room .ensures, y .0, y .1) (c .tell5 .ensures)
 
