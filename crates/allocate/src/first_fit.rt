@@ -1,13 +1,12 @@
 // The first suiting hole, and the refusals where none is found.
 use crate::split::split_current;
 use hole::refuse;
-use rules::Addr;
 use rules::Decided;
 use rules::Heap;
-use rules::MIN_SIZE;
 use rules::Refusal;
 use walk::Search;
 use walk::adds_up;
+use walk::behind;
 use walk::first_fit;
 use walk::is_all_free;
 use walk::walk;
@@ -42,7 +41,7 @@ pub fn allocate_first_fit(h: Heap, arena: &[u8], want: u64, align: u64) -> Decid
     };
     let hole = fit.hole;
     let next = fit.next;
-    let floor = Addr(hole.addr.0 + hole.size + MIN_SIZE);
+    let floor = behind(hole);
     if adds_up(h, walk(h, arena, next, floor, fit.total)) {
         return split_current(h, arena, fit, want, align);
     }

@@ -2,6 +2,7 @@
 use hole::nothing;
 use hole::refuse;
 use joining::insert;
+use numbers::fair_size;
 use rules::Addr;
 use rules::Answer;
 use rules::Decided;
@@ -34,7 +35,7 @@ fn gather(h: Heap, pending: u64) -> Decided
     Decided {
         heap: Heap { pending, ..h },
         answer: Answer::Extended {
-            size: h.top.0 - h.bottom.0,
+            size: fair_size(h),
             pending,
         },
         heads: Writes {

@@ -1,7 +1,7 @@
 -- What is printed of a call: its answer's line and, of a list, the lines of its holes. Assumes nothing.
 use mathlib.Core.Path.{_≡_, refl, sym, _∙_}
 use mathlib.Core.Bool.{Bool, true, false}
-use mathlib.Core.List.{List, [], _∷_, _++_, append-nil}
+use mathlib.Core.List.{List, [], _++_, append-nil}
 use Prim.Native.Nat.{ℕ, _+_, _*_, _/_, _≤_}
 use native.Mathlib.Omega.{arith}
 use lib.ListN.{length}
@@ -14,14 +14,13 @@ use Rattle.rules.specs.declared.Refusal.{Refusal}
 use Rattle.rules.specs.declared.Refusal.the-variants as no
 use Rattle.rules.specs.declared.Answer.the-variants.{Listed}
 use Rattle.rules.specs.Fixed.{minSize}
-use Rattle.rules.specs.Tests.{any}
 use Rattle.rules.specs.Sound.{soundNumbers, soundHoles, holes}
 use Rattle.rules.specs.Changes.{Report}
 use Rattle.rules.specs.Calls.{Call, opening, change, report, list, room, Outcome, refused, told, done, accepted}
-use Rattle.rules.specs.Refusals.{Test, tests, unless}
+use Rattle.rules.specs.Refusals.{tests}
 use Rattle.rules.specs.Answers.{refusalNumbers, answerNumbers}
-use Rattle.rules.specs.Outcome.{decided, outcome, leaves, after, Rows, over, inRows, leavesRows}
-use Rattle.rules.proofs.Cases.{by-test, apart, or-left}
+use Rattle.rules.specs.Outcome.{outcome, leaves, after, Rows, over, inRows, leavesRows}
+use Rattle.rules.proofs.Cases.{apart, or-left}
 use Rattle.rules.proofs.Walk.{sound-fair, sound-count}
 use Rattle.rules.proofs.Passes.{by-change, by-decided}
 use Rattle.lines.specs.Wire.{numbersLine, holeLines, spoken}

@@ -7,6 +7,7 @@ use hole::place_of;
 use hole::refuse;
 use hole::write;
 use numbers::bad_opening;
+use numbers::fair_size;
 use rules::Addr;
 use rules::Answer;
 use rules::Decided;
@@ -79,7 +80,7 @@ fn only_hole(h: Heap) -> Write
     Write {
         at,
         head: Head {
-            size: h.top.0 - h.bottom.0,
+            size: fair_size(h),
             next: Place(NONE),
         },
     }
@@ -98,7 +99,7 @@ pub fn decide(h: Heap, len: u64, base: Addr, named: u64) -> Decided
     }
     let heap = new(len, base, named);
     let bottom = heap.bottom;
-    let size = heap.top.0 - bottom.0;
+    let size = fair_size(heap);
     Decided {
         heap,
         answer: Answer::Opened { bottom, size },

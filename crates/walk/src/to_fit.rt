@@ -8,6 +8,7 @@ use crate::first_floor;
 use crate::is_end;
 use crate::next;
 use align::align_up;
+use align::offset;
 use rules::Addr;
 use rules::Heap;
 use rules::Hole;
@@ -29,7 +30,7 @@ pub fn candidate(addr: Addr, align: u64) -> Addr
     requires { ⌜ (Power align) × (align ≤ addrLimit) × (addr .0 + minSize ≤ addrLimit) ⌝ }
     ensures { λ r. ⌜ r ≡ Allocate.candidate align addr ⌝ }
 {
-    if addr.0 & (align - 1) == 0 {
+    if offset(addr.0, align) == 0 {
         return addr;
     }
     align_up(Addr(addr.0 + MIN_SIZE), align)

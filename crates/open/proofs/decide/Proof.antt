@@ -1,6 +1,5 @@
 -- `open::decide` meets its contract: 2, then 1, else the heap that `new` makes and the head of its one hole. Assumes nothing.
 use mathlib.Core.Path.{sym, _∙_}
-use native.Mathlib.Omega.{arith}
 use borrow.Author.Needs.{needs}
 use Rattle.open.proofs.Begun.{opened-rises, begun-2, begun-1, begun}
 use Rattle.open.proofs.decide.Statement.{statement}
@@ -11,8 +10,8 @@ use Rattle.open.proofs.decide.Tie as tie
 abbrev start : tie.After-bad-opening → tie.Start
 start c = c .before .before .before
 
-abbrev made : tie.After-struct-known3 → tie.After-new
-made c = c .before .before .before
+abbrev made : tie.After-fair-size → tie.After-new
+made c = c .before .before
 
 -- ---- the needs
 
@@ -40,8 +39,8 @@ returns-2 c m lent =
 new-requires : tie.Need-new-requires
 new-requires c κs = sym (c .before .bad-opening .ensures) ∙ c .if2 .left
 
-sub-size : tie.Need-sub-size
-sub-size c = let r = opened-rises _ _ _ (made c .new .ensures) in omega arith
+fair-size-requires : tie.Need-fair-size-requires
+fair-size-requires c κs = opened-rises _ _ _ (c .before .new .ensures) .1
 
 only-hole-requires : tie.Need-only-hole-requires
 only-hole-requires c κs = opened-rises _ _ _ (made c .new .ensures) .1
@@ -51,10 +50,11 @@ nothing-requires c κs = search needs
 
 returns-3 : tie.Need-returns-3
 returns-3 c m lent =
-    let k = made (c .before .before) in
+    let z = c .before .before in
+    let k = made z in
     let b = k .before .before in
     let s = start b .args in
-    rw (c .before .only-hole .ensures, c .nothing .ensures)
+    rw (c .before .only-hole .ensures, c .nothing .ensures, z .fair-size .ensures)
     (begun (s .base) (s .named) (s .h) m (b .before .if1 .left) lent (b .bad-opening .ensures) (k .before .if2 .left) (k .new .ensures))
 
 pub decide-spec : {M : Type 1} → statement M
@@ -67,7 +67,7 @@ decide-spec =
     refuse-requires-2
     returns-2
     new-requires
-    sub-size
+    fair-size-requires
     only-hole-requires
     nothing-requires
     returns-3)

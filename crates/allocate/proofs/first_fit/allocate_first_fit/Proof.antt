@@ -44,7 +44,7 @@ decided : (c : tie.After-adds-up) → Sound (found c) ≡ c .adds-up .result
 decided c =
     let g = found c in
     goes-on (start g .args .h) (start g .args .arena .now) (start g .args .want) (start g .args .align) (start g .pre .0 .lent .fair) (at g)
-    (c .before .walk .ensures)
+    (rw (c .before .before .behind .ensures) at (c .before .walk .ensures))
     ∙ sym (c .adds-up .ensures)
 
 -- ---- the needs
@@ -66,18 +66,18 @@ returns c =
     (no-fit-is (s .args .h) (s .args .arena .now) (s .args .want) (s .args .align) (s .pre .0 .lent .fair)
     (a .first-fit .result) (c .before .match .keys2) (a .first-fit .ensures))
 
-add-t10 : tie.Need-add-t10
-add-t10 c = let l = hole-inside (c .before .before .before .before) in omega arith
-
-add-t11 : tie.Need-add-t11
-add-t11 c = let l = hole-inside (c .before .before .before .before) in omega arith
+behind-requires : tie.Need-behind-requires
+behind-requires c κs =
+    let g = c .before .before .before in
+    let f = start g .pre .0 .lent .fair in
+    omega (arith, hole-inside g .1)
 
 walk-requires : tie.Need-walk-requires
 walk-requires c κs =
     let g = c .before .before .before .before in
     let s = start g in
     let a = asks (s .args .h) (s .args .arena .now) (s .args .want) (s .args .align) (s .pre .0 .lent .fair) (at g) in
-    (s .pre .0 .lent, a .0, a .1)
+    rw (c .behind .ensures) (s .pre .0 .lent, a .0, a .1)
 
 adds-up-requires : tie.Need-adds-up-requires
 adds-up-requires c κs = search needs
@@ -114,8 +114,7 @@ allocate-first-fit-spec =
     enum-known-found
     no-fit-requires
     returns
-    add-t10
-    add-t11
+    behind-requires
     walk-requires
     adds-up-requires
     split-current-requires

@@ -3,8 +3,8 @@ use borrow.Author.Needs.{needs}
 use Rattle.extend.proofs.growth.gather.Statement.{statement}
 use Rattle.extend.proofs.growth.gather.Tie as tie
 
-sub-t10 : tie.Need-sub-t10
-sub-t10 c = search needs
+fair-size-requires : tie.Need-fair-size-requires
+fair-size-requires c κs = search needs
 
 nothing-requires : tie.Need-nothing-requires
 nothing-requires c κs = search needs
@@ -13,7 +13,7 @@ nothing-requires-2 : tie.Need-nothing-requires-2
 nothing-requires-2 c κs = search needs
 
 returns : tie.Need-returns
-returns c = rw (c .nothing2 .ensures, c .before .nothing .ensures)
+returns c = rw (c .nothing2 .ensures, c .before .nothing .ensures, c .before .before .fair-size .ensures)
 
 pub gather-spec : {M : Type 1} → statement M
-gather-spec = tie.close (tie.spec sub-t10 nothing-requires nothing-requires-2 returns)
+gather-spec = tie.close (tie.spec fair-size-requires nothing-requires nothing-requires-2 returns)
