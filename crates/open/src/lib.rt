@@ -23,16 +23,15 @@ use rules::Writes;
 ghost use mathlib.Core.Path.{_≡_};
 ghost use mathlib.Core.Bool.{false};
 ghost use mathlib.Core.List.{List};
-ghost use Prim.Native.Nat.{ℕ, _≤_};
+ghost use Prim.Native.Nat.{ℕ};
 ghost use lib.ListN.{length};
 ghost use Rattle.rules.specs.Tests.{any};
 ghost use Rattle.rules.specs.Kinds.{none};
-ghost use Rattle.rules.specs.Sound.{unopened, size};
+ghost use Rattle.rules.specs.Sound.{unopened};
 ghost use Rattle.rules.specs.Calls as Calls;
 ghost use Rattle.rules.specs.Calls.{opened};
 ghost use Rattle.rules.specs.Refusals.{refusal1};
 ghost use Rattle.rules.specs.Outcome.{Is, after};
-ghost use Rattle.rules.specs.Inner as Inner;
 ghost use Rattle.rules.specs.Inner.{Decides};
 
 // An unopened heap: bottom is 0 and so is the rest.
@@ -71,21 +70,6 @@ fn new(len: u64, base: Addr, named: u64) -> Heap
     }
 }
 
-// The head of its one hole, which has all of its bytes.
-fn only_hole(h: Heap) -> Write
-    requires { ⌜ h .bottom .0 ≤ h .top .0 ⌝ }
-    ensures { λ r. ⌜ r ≡ Inner.write (h .first) (size h) none ⌝ }
-{
-    let at = h.first;
-    Write {
-        at,
-        head: Head {
-            size: fair_size(h),
-            next: Place(NONE),
-        },
-    }
-}
-
 // What an opening comes to on any arena of `len` bytes, since it reads none of them: the tests 2 and 1,
 // and the one hole that the heap begins with.
 pub fn decide(h: Heap, len: u64, base: Addr, named: u64) -> Decided
@@ -99,12 +83,20 @@ pub fn decide(h: Heap, len: u64, base: Addr, named: u64) -> Decided
     }
     let heap = new(len, base, named);
     let bottom = heap.bottom;
+    let first = heap.first;
     let size = fair_size(heap);
+    let one = Write {
+        at: first,
+        head: Head {
+            size,
+            next: Place(NONE),
+        },
+    };
     Decided {
         heap,
         answer: Answer::Opened { bottom, size },
         heads: Writes {
-            one: only_hole(heap),
+            one,
             two: nothing(),
         },
     }

@@ -11,7 +11,7 @@ abbrev start : tie.After-bad-opening → tie.Start
 start c = c .before .before .before
 
 abbrev made : tie.After-fair-size → tie.After-new
-made c = c .before .before
+made c = c .before .before .before
 
 -- ---- the needs
 
@@ -40,21 +40,18 @@ new-requires : tie.Need-new-requires
 new-requires c κs = sym (c .before .bad-opening .ensures) ∙ c .if2 .left
 
 fair-size-requires : tie.Need-fair-size-requires
-fair-size-requires c κs = opened-rises _ _ _ (c .before .new .ensures) .1
-
-only-hole-requires : tie.Need-only-hole-requires
-only-hole-requires c κs = opened-rises _ _ _ (made c .new .ensures) .1
+fair-size-requires c κs = opened-rises _ _ _ (c .before .before .new .ensures) .1
 
 nothing-requires : tie.Need-nothing-requires
 nothing-requires c κs = search needs
 
 returns-3 : tie.Need-returns-3
 returns-3 c m lent =
-    let z = c .before .before in
+    let z = c .before in
     let k = made z in
     let b = k .before .before in
     let s = start b .args in
-    rw (c .before .only-hole .ensures, c .nothing .ensures, z .fair-size .ensures)
+    rw (c .nothing .ensures, z .fair-size .ensures)
     (begun (s .base) (s .named) (s .h) m (b .before .if1 .left) lent (b .bad-opening .ensures) (k .before .if2 .left) (k .new .ensures))
 
 pub decide-spec : {M : Type 1} → statement M
@@ -68,6 +65,5 @@ decide-spec =
     returns-2
     new-requires
     fair-size-requires
-    only-hole-requires
     nothing-requires
     returns-3)
