@@ -10,6 +10,10 @@ use Rattle.rules.proofs.Layouts.{is-rounded, rounded-covers, layout-no-power, l
 use Rattle.layout.proofs.align_layout.Statement.{statement}
 use Rattle.layout.proofs.align_layout.Tie as tie
 
+-- once the size was rounded up
+abbrev start : tie.After-align-up-size → tie.Start
+start c = c .before .before .before .before
+
 returns : tie.Need-returns
 returns c =
     let size = c .before .args .size in
@@ -31,22 +35,22 @@ align-up-size-requires c κs = (grain-power, search needs)
 
 sub-if3 : tie.Need-sub-if3
 sub-if3 c =
-    let align = c .before .before .before .before .args .align in
+    let align = start c .args .align in
     let l : align < 2 ^ width = omega arith in
     let e = sym (ones-in width align l) ∙ c .before .before .before .if1 .left in
     power-half 63 (one-power width align l e) l
 
 returns-3 : tie.Need-returns-3
 returns-3 c =
-    let size = c .before .before .before .before .before .args .size in
-    let align = c .before .before .before .before .before .args .align in
+    let size = start (c .before) .args .size in
+    let align = start (c .before) .args .align in
     let r = is-rounded size (c .before .before .at-least-min .ensures) (c .before .align-up-size .ensures) in
     sym (layout-large size align (omega arith))
 
 returns-4 : tie.Need-returns-4
 returns-4 c =
-    let size = c .before .before .before .before .before .args .size in
-    let align = c .before .before .before .before .before .args .align in
+    let size = start (c .before) .args .size in
+    let align = start (c .before) .args .align in
     let l : align < 2 ^ width = omega arith in
     let e = sym (ones-in width align l) ∙ c .before .before .before .before .if1 .left in
     let r = is-rounded size (c .before .before .at-least-min .ensures) (c .before .align-up-size .ensures) in

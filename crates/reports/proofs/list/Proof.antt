@@ -17,6 +17,15 @@ start c = c .before .before .before .before .before
 passed : (c : tie.At-match-keys2) → Tested (start (c .before) .args .h) (start (c .before) .args .arena .now)
 passed c = tested _ _ (c .before .before .arena-len .ensures .0) (c .before .check .ensures) (c .match .keys2)
 
+abbrev tests : tie.After-survey → tie.At-match-keys2
+tests c = c .before .before
+
+abbrev gathered : tie.After-found → tie.After-survey
+gathered c = c .before .before
+
+abbrev found : tie.After-fair-size → tie.After-found
+found c = c .before .before .before .before .before .before .before .before .before
+
 -- ---- the needs
 
 arena-len-requires : tie.Need-arena-len-requires
@@ -50,7 +59,7 @@ enum-told-2 c = search needs
 returns-2 : tie.Need-returns-2
 returns-2 c =
     let v = c .before .before in
-    let k = v .before .before in
+    let k = tests v in
     let s = start (k .before) .args in
     let e = report-broken _ _ (passed k) list refl (survey-says _ _ (v .survey .ensures) (c .enum-told2 .given .1)) in
     (sym (answer-refused list (s .h) (s .arena .now) _ e), sym (rows-refused list (s .h) (s .arena .now) _ _ e))
@@ -58,8 +67,8 @@ returns-2 c =
 fill-requires : tie.Need-fill-requires
 fill-requires c κs =
     let f = c .before .before .before in
-    let v = f .before .before in
-    let k = v .before .before in
+    let v = gathered f in
+    let k = tests v in
     let known = k .before .before .before .before .before .shared-slice-known in
     record {
       ready = record { lent = passed k .lent; bytes = λ j. known .given j .fits };
@@ -68,15 +77,15 @@ fill-requires c κs =
 
 fair-size-requires : tie.Need-fair-size-requires
 fair-size-requires c κs =
-    let f = passed (c .before .before .before .before .before .before .before .before .before .before .before .before) .lent .fair in
+    let f = passed (tests (gathered (c .before .before .before .before .before .before .before .before))) .lent .fair in
     omega arith
 
 sub-t16 : tie.Need-sub-t16
 sub-t16 c =
     let z = c .before in
-    let f = z .before .before .before .before .before .before .before .before .before in
-    let v = f .before .before in
-    let u = used-fits _ _ (passed (v .before .before) .lent) (survey-says _ _ (v .survey .ensures) (f .found .given .1) .0) in
+    let f = found z in
+    let v = gathered f in
+    let u = used-fits _ _ (passed (tests v) .lent) (survey-says _ _ (v .survey .ensures) (f .found .given .1) .0) in
     omega (arith, z .fair-size .ensures)
 
 same-length : tie.Need-same-length
@@ -89,9 +98,9 @@ returns-3 : tie.Need-returns-3
 returns-3 c =
     let z = c .before in
     let filled = z .before .before .before .before .before .fill .ensures in
-    let f = z .before .before .before .before .before .before .before .before .before in
-    let v = f .before .before in
-    let k = v .before .before in
+    let f = found z in
+    let v = gathered f in
+    let k = tests v in
     let s = start (k .before) .args in
     let e = list-told _ _ (passed k) (survey-says _ _ (v .survey .ensures) (f .found .given .1)) in
     (rw (z .fair-size .ensures) (sym (answer-told list (s .h) (s .arena .now) _ _ e)), filled ∙ sym (rows-told list (s .h) (s .arena .now) _ _ _ e))

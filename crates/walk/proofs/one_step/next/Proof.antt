@@ -27,6 +27,10 @@ reaches c =
     let f = start (c .before) .pre .fair in
     omega (arith, c .if1 .left)
 
+-- and once address and size are multiples of 8
+abbrev eight : tie.Else4 → tie.After-addr-of
+eight c = c .before .before .before .before .before
+
 abbrev asked : tie.After-addr-of → tie.Start
 asked c = start (c .before .before .before)
 
@@ -75,22 +79,22 @@ returns-4 : tie.Need-returns-4
 returns-4 c = breaks (c .before .before .before .before .before) (λ r. c .if4 .taken (eight-both _ _ (r .addr8) (r .size8)))
 
 returns-5 : tie.Need-returns-5
-returns-5 c = breaks (c .before .before .before .before .before .before) (λ r. omega arith)
+returns-5 c = breaks (eight (c .before)) (λ r. omega arith)
 
 sub-if6 : tie.Need-sub-if6
 sub-if6 c =
-    let a = c .before .before .before .before .before .before .before .before in
+    let a = eight (c .before .before .before) in
     let r = reaches (a .before .before) in
     let e = ap (λ (x : Addr). x .0) (a .addr-of .ensures) in
     omega arith
 
 returns-6 : tie.Need-returns-6
-returns-6 c = breaks (c .before .before .before .before .before .before .before .before .before) (λ r. omega arith)
+returns-6 c = breaks (eight (c .before .before .before .before)) (λ r. omega arith)
 
 returns-7 : tie.Need-returns-7
 returns-7 c =
     let e4 = c .before .before .before .before .before in
-    let a = e4 .before .before .before .before .before in
+    let a = eight e4 in
     let r = reaches (a .before .before) in
     let eights = both-eight (a .addr-of .result .0) (a .before .read-head .result .size) (e4 .if4 .left) in
     kept _ _ _ _ (λ e. omega (arith, e)) (a .addr-of .ensures) (a .before .read-head .ensures) (omega arith)
