@@ -27,10 +27,9 @@ use Rattle.rules.proofs.Relink.{put-append}
 use Rattle.rules.proofs.Used.{candidate-low, suits-fits, suits-leaves, used-rises, find-total}
 use Rattle.rules.proofs.Written.{decides-changed}
 use Rattle.walk.specs.Settled.{Asked}
-use Rattle.walk.specs.Walk.{searchOf}
 use Rattle.walk.specs.declared.Fit.{Fit}
 use Rattle.walk.specs.declared.Search.the-variants as search
-use Rattle.walk.proofs.ToFit.{Fits, fit-at}
+use Rattle.walk.proofs.ToFit.{Fits}
 use Rattle.walk.specs.Settled.{Settled}
 use Rattle.walk.proofs.Stands.{stands}
 use Rattle.joining.specs.declared.Relinked.{Relinked}
@@ -75,11 +74,6 @@ module _ (base lo hi : Addr) (q : Place) where
         (λ n. rw (remainder-some n) (λ z. f n))
 
 -- ---- the hole that the search found
-
--- where it lies among the holes
-pub found : (h : Heap) (m : List ℕ) (want align : ℕ) {f : Fit}
-    → searchOf h want align (holes h m) ≡ search.At f → Fits h want align (holes h m) f
-found h m want align at = fit-at h want align (holes h m) at
 
 -- the sums and the tests of the code
 pub record Room (h : Heap) (len want align : ℕ) (f : Fit) : Type 0 where

@@ -69,6 +69,10 @@ refuses-call c h m later {r} v =
     (λ t. let k = checked-5 (length m) h n d t in let e : r ≡ NotSound = cc in rw e (outcome-5 c h m later n d t)))
     (λ d. let k = checked-4 (length m) h n d in let e : r ≡ OtherLength = cc in rw e (outcome-4 c h m later n d)))
 
+pub decides-no : (c : Call) (h : Heap) (m : List ℕ) → Opens c ≡ false → {r : Refusal} → checkedOf (length m) h ≡ No r
+    → Decides (after c h m) m (refusing h r)
+decides-no c h m later {r} v = decides-left c h m (refused r) (refuses-call c h m later v) (decides-refused h m r)
+
 -- ---- as a call parts the two by an `if let`
 
 -- what is not no lets the call go on
@@ -89,5 +93,4 @@ module _ {v : Checked} {len : ℕ} (h : Heap) (m : List ℕ) (lent : len ≡ len
 
   -- the call refuses
   pub tested-no : (c : Call) → Opens c ≡ false → {r : Refusal} → v ≡ No r → Decides (after c h m) m (refusing h r)
-  tested-no c later {r} e =
-      decides-left c h m (refused r) (refuses-call c h m later (rw lent at (sym said ∙ e))) (decides-refused h m r)
+  tested-no c later e = decides-no c h m later (rw lent at (sym said ∙ e))

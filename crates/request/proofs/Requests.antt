@@ -23,11 +23,11 @@ use Rattle.rules.proofs.Layout as Layouts
 use Rattle.rules.proofs.Layouts.{rounded-least, rounded-multiple, layout-valid}
 use Rattle.rules.proofs.Walk.{sound-fair}
 use Rattle.rules.proofs.Calls.{layout-6}
-use Rattle.rules.proofs.Written.{decides-refused, decides-left, decides-later}
+use Rattle.rules.proofs.Written.{decides-later}
 use Rattle.numbers.specs.Checks.{checkedOf}
 use Rattle.numbers.specs.declared.Checked.{Checked}
 use Rattle.numbers.specs.declared.Checked.the-variants as checked
-use Rattle.numbers.proofs.Verdicts.{passes, refuses-call}
+use Rattle.numbers.proofs.Verdicts.{passes, decides-no}
 use Rattle.walk.specs.Settled.{Asked}
 use Rattle.request.specs.declared.Request.the-variants.{Of, No}
 use Rattle.request.specs.Requested.{byLayout, byNumbers, requestOf}
@@ -51,9 +51,7 @@ module _ (h : Heap) (m : List ℕ) (s align : ℕ) where
       → (v : Checked) → checkedOf (length m) h ≡ v → (l : Layout) → layoutOf s align ≡ l → byNumbers v l h m ≡ No r
       → Decides (after (change c) h m) m (refusing h r)
   unfolding byNumbers byLayout
-  no-by c t {r} (checked.No x) k l q e =
-      let a : x ≡ r = cc in
-      decides-left (change c) h m (refused r) (rw (← a) (refuses-call (change c) h m refl k)) (decides-refused h m r)
+  no-by c t {r} (checked.No x) k l q e = let a : x ≡ r = cc in rw (← a) (decides-no (change c) h m refl k)
   no-by c t checked.Fair k (Rounded w) q e = let z : _≡_ {A = ℕ} 0 1 = cc in absurd (omega arith)
   no-by c t {r} checked.Fair k Bad q e =
       let p = passes (length m) h k in

@@ -1,5 +1,4 @@
--- `joining::insert` meets its contract: the hole before the span ends there or does not, and either way the heads to be written stand for
--- the new list. Assumes nothing.
+-- `joining::insert` meets its contract, whether or not the hole before the span ends there. Assumes nothing.
 use mathlib.Core.Path.{_≡_, sym, _∙_}
 use native.Mathlib.Omega.{arith}
 use borrow.Author.Needs.{needs}

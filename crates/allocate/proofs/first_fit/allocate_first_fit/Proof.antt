@@ -1,5 +1,4 @@
--- `allocate::first_fit::allocate_first_fit` meets its contract: the search and the walk behind the hole that it found decide the rules on
--- all holes. Assumes nothing.
+-- `allocate::first_fit::allocate_first_fit` meets its contract: the search, and the walk behind it, decide. Assumes nothing.
 use mathlib.Core.Path.{_≡_, sym, _∙_}
 use mathlib.Core.Bool.{Bool}
 use native.Mathlib.Omega.{arith}

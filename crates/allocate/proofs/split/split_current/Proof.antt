@@ -1,18 +1,17 @@
--- `allocate::split::split_current` meets its contract: what remains behind the block and in front of it, linked, is the new list. Assumes
--- nothing.
+-- `allocate::split::split_current` meets its contract: the pieces of the hole, linked, are the new list. Assumes nothing.
 use native.Mathlib.Omega.{arith}
 use borrow.Author.Needs.{needs}
 use lib.ListN.{length}
 use Rattle.rules.specs.Sound.{holes}
-use Rattle.walk.proofs.ToFit.{Fits}
-use Rattle.allocate.proofs.Pieces.{found, Room, room, split-is}
+use Rattle.walk.proofs.ToFit.{Fits, fit-at}
+use Rattle.allocate.proofs.Pieces.{Room, room, split-is}
 use Rattle.allocate.proofs.split.split_current.Statement.{statement}
 use Rattle.allocate.proofs.split.split_current.Tie as tie
 
 -- ---- what is known from the start, and once the block's address is known
 
 fits : (s : tie.Start) → Fits (s .args .h) (s .args .want) (s .args .align) (holes (s .args .h) (s .args .arena .now)) (s .args .fit)
-fits s = found (s .args .h) (s .args .arena .now) (s .args .want) (s .args .align) (s .pre .2)
+fits s = fit-at (s .args .h) (s .args .want) (s .args .align) _ (s .pre .2)
 
 bounds : (s : tie.Start) → Room (s .args .h) (length (s .args .arena .now)) (s .args .want) (s .args .align) (s .args .fit)
 bounds s = room (s .args .h) (s .args .arena .now) (s .args .want) (s .args .align) (s .pre .0) (s .pre .1) (fits s)

@@ -1,5 +1,4 @@
--- `free::deallocation::deallocate` meets its contract: the search and the walk behind it decide the rules on the holes, the tests on the
--- neighbours decide refusal 8, and the span that is inserted is the one that becomes free. Assumes nothing.
+-- `free::deallocation::deallocate` meets its contract: the walk decides 5, the neighbours 8, and the span is inserted. Assumes nothing.
 use mathlib.Core.Path.{_≡_, sym, _∙_}
 use mathlib.Core.Bool.{true}
 use borrow.Author.Needs.{needs}

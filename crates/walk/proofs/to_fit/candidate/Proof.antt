@@ -1,5 +1,4 @@
--- `walk::to_fit::candidate` meets its contract: the offset tells whether the address is a multiple, and what is rounded up is the first
--- one that leaves room for a head. Assumes nothing.
+-- `walk::to_fit::candidate` meets its contract: the offset tells whether the address is a multiple. Assumes nothing.
 use mathlib.Core.Path.{sym, _∙_}
 use borrow.Author.Needs.{needs}
 use Rattle.walk.proofs.ToFit.{aligned-candidate, raised-candidate}
