@@ -18,14 +18,14 @@ use Rattle.rules.specs.declared.Hole.{Hole}
 use Rattle.rules.specs.declared.Heap.{Heap}
 use Rattle.rules.specs.declared.Write.{Write}
 use Rattle.rules.specs.declared.Answer.the-variants.{Allocated}
-use Rattle.rules.specs.Inner.{firstOr, putHeadsTo, put, write, nothing, written, Inside, Decides, Rises, endOr}
+use Rattle.rules.specs.Inner.{firstOr, putHeadsTo, put, write, nothing, written, Inside, Fulfils, Rises, endOr}
 use Rattle.rules.proofs.Cases.{by-eq}
 use Rattle.rules.proofs.Powers.{power-pos}
 use Rattle.rules.proofs.Rises.{rises-le, rises-front, rises-back}
 use Rattle.rules.proofs.Lists.{holds-split}
 use Rattle.rules.proofs.Relink.{put-append}
 use Rattle.rules.proofs.Used.{candidate-low, suits-fits, suits-leaves, used-rises, find-total}
-use Rattle.rules.proofs.Written.{decides-changed}
+use Rattle.rules.proofs.Written.{fulfils-changed}
 use Rattle.walk.specs.Settled.{Asked}
 use Rattle.walk.specs.declared.Fit.{Fit}
 use Rattle.walk.specs.declared.Search.the-variants as search
@@ -233,7 +233,7 @@ module _
         → to ≡ leadsTo rear (f .next)
         → front ≡ remainder (h .base) (f .hole .addr) at to
         → r ≡ splitTo (h .first) m (f .cursor .prev) front rear to
-        → Decides (granted want align h m) m
+        → Fulfils (granted want align h m) m
         (record {
           heap =
               record {
@@ -253,5 +253,5 @@ module _
         let count : f .count ≡ length (fits .front) + 1 = omega (arith, fits .counted) in
         let list = split-list (i₂ ∙ rw i₁) i₃ (i₄ ∙ rw i₁) in
         rw (fits .found, i₁, count, i₅)
-        (decides-changed h m (Allocated start (length (fits .front) + 1))
+        (fulfils-changed h m (Allocated start (length (fits .front) + 1))
         (fits .front ++ (split want align (f .hole) ++ fits .back)) (h .top) (h .pending) (h .used + want) list)

@@ -17,7 +17,7 @@ use Rattle.rules.specs.Sound.{size, soundHoles, holes}
 use Rattle.rules.specs.Calls.{taken}
 use Rattle.rules.specs.declared.Heap.{Heap}
 use Rattle.rules.specs.declared.Refusal.the-variants.{NotSound, NoRoom}
-use Rattle.rules.specs.Inner.{Fair, behind, refusing, Decides}
+use Rattle.rules.specs.Inner.{Fair, behind, refusing, Fulfils}
 use Rattle.rules.proofs.Cases.{cases}
 use Rattle.walk.specs.Walk.{Enough, walkedOf}
 use Rattle.walk.specs.Walk.{searchOf}
@@ -30,7 +30,7 @@ use Rattle.walk.proofs.ToFit.{Fits, fit-at, fit-bad, fit-nowhere, fit-reached}
 use Rattle.walk.specs.Walk.{addsUp}
 use Rattle.allocate.specs.Granted.{noFit, takes, grantedIfSound}
 use Rattle.walk.proofs.ToEnd.{by-walk, Reached, onward-asks, onward-decides}
-use Rattle.rules.proofs.Written.{decides-refused, decides-sound, decides-broken}
+use Rattle.rules.proofs.Written.{fulfils-refused, fulfils-sound, fulfils-broken}
 
 -- ---- the hole found
 
@@ -65,7 +65,7 @@ not-full h search.Bad o = refl
 -- what is decided then is what the outcome says
 abbrev Refuses : Heap → List ℕ → ℕ → ℕ → Search → Type 0
 Refuses h m want align s =
-    s ≡ searchOf h want align (holes h m) → Decides (grantedIfSound want align h m) m (refusing h (noFit h s))
+    s ≡ searchOf h want align (holes h m) → Fulfils (grantedIfSound want align h m) m (refusing h (noFit h s))
 
 module _ (h : Heap) (m : List ℕ) (want align : ℕ) (fair : Fair h) where
   full-is : (count total : ℕ) → Refuses h m want align (search.Nowhere count total)
@@ -79,16 +79,16 @@ module _ (h : Heap) (m : List ℕ) (want align : ℕ) (fair : Fair h) where
       cases (eqb (Holes.total ks + h .used) (size h))
       (λ q.
       rw (c, t, q)
-      (decides-sound h m ks o (rw (by-walk h m fair, f .walked, q))
-      (rw (f .none) (decides-refused h m (NoRoom (length ks))))))
-      (λ q. rw (t, q) (decides-broken h m ks o (rw (by-walk h m fair, f .walked, q))))
+      (fulfils-sound h m ks o (rw (by-walk h m fair, f .walked, q))
+      (rw (f .none) (fulfils-refused h m (NoRoom (length ks))))))
+      (λ q. rw (t, q) (fulfils-broken h m ks o (rw (by-walk h m fair, f .walked, q))))
 
   bad-is : Refuses h m want align search.Bad
   unfolding noFit
   bad-is e =
       let ks = holes h m in
       let w = fit-bad h want align ks (sym e) in
-      decides-broken h m ks (takes want align h m) (rw (by-walk h m fair, w))
+      fulfils-broken h m ks (takes want align h m) (rw (by-walk h m fair, w))
 
   pub no-fit-is : (s : Search) → OneOf (1 ∷ 2 ∷ []) (tagOf Searches.the-type s) → Refuses h m want align s
   no-fit-is (search.At f) (inl e) = absurd (omega arith)

@@ -11,7 +11,7 @@ use walk::first_fit;
 use walk::is_all_free;
 use walk::walk;
 ghost use mathlib.Core.Path.{_≡_};
-ghost use Rattle.rules.specs.Inner.{Fair, Decides, refusing};
+ghost use Rattle.rules.specs.Inner.{Fair, Fulfils, refusing};
 ghost use Rattle.walk.specs.Settled.{Asked};
 ghost use Rattle.walk.specs.Settled.{Ready};
 ghost use Rattle.allocate.specs.Granted.{noFit, grantedIfSound};
@@ -33,7 +33,7 @@ fn no_fit(h: Heap, found: Search) -> Decided
 // Grants the first hole that suits a rounded size and an alignment, or refuses with 5 or 7.
 pub fn allocate_first_fit(h: Heap, arena: &[u8], want: u64, align: u64) -> Decided
     requires { ⌜ Ready h (now arena) × Asked want align ⌝ }
-    ensures { λ d. ⌜ Decides (grantedIfSound want align h (now (arena .entry))) (now (arena .entry)) d ⌝ }
+    ensures { λ d. ⌜ Fulfils (grantedIfSound want align h (now (arena .entry))) (now (arena .entry)) d ⌝ }
 {
     let found = first_fit(h, arena, want, align);
     let Search::At(fit) = found else {

@@ -13,11 +13,11 @@ use rules::Done;
 use rules::Heap;
 ghost use Rattle.rules.specs.Calls as Calls;
 ghost use Rattle.rules.specs.Outcome.{Is, after};
-ghost use Rattle.rules.specs.Inner.{Decides};
+ghost use Rattle.rules.specs.Inner.{Fulfils};
 
 // What a request comes to: the tests 3, 4, 5, 6, 7, and the hole that is used.
 pub fn decide(h: Heap, arena: &[u8], size: u64, align: u64) -> Decided
-    ensures { λ d. ⌜ Decides (after (Calls.allocate size align) h (now (arena .entry))) (now (arena .entry)) d ⌝ }
+    ensures { λ d. ⌜ Fulfils (after (Calls.allocate size align) h (now (arena .entry))) (now (arena .entry)) d ⌝ }
 {
     let asked = check(h, arena, size, align);
     match asked {

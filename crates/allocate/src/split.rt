@@ -18,7 +18,7 @@ use walk::candidate;
 ghost use mathlib.Core.Path.{_≡_};
 ghost use Prim.Native.Nat.{_≤_};
 ghost use Rattle.rules.specs.Sound.{holes};
-ghost use Rattle.rules.specs.Inner.{Inside, Decides};
+ghost use Rattle.rules.specs.Inner.{Inside, Fulfils};
 ghost use Rattle.walk.specs.Settled.{Asked};
 ghost use Rattle.walk.specs.Walk.{searchOf};
 ghost use Rattle.walk.specs.Settled.{Settled};
@@ -75,7 +75,7 @@ fn relink(first: Place, arena: &[u8], prev: Place, front: Write, rear: Write, to
 // Uses the hole that was found: what remains of it behind the block and in front of it become holes.
 pub fn split_current(h: Heap, arena: &[u8], fit: Fit, want: u64, align: u64) -> Decided
     requires { ⌜ Settled h (now arena) × Asked want align × (searchOf h want align (holes h (now arena)) ≡ Search.At fit) ⌝ }
-    ensures { λ d. ⌜ Decides (granted want align h (now (arena .entry))) (now (arena .entry)) d ⌝ }
+    ensures { λ d. ⌜ Fulfils (granted want align h (now (arena .entry))) (now (arena .entry)) d ⌝ }
 {
     let base = h.base;
     let hole = fit.hole;

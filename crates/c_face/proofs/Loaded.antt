@@ -4,7 +4,7 @@ use mathlib.Core.List.{List}
 use Prim.Native.Nat.{ℕ}
 use Rattle.rules.specs.Calls.{Call, list}
 use Rattle.rules.specs.Outcome.{after, Rows, rowsAfter}
-use Rattle.rules.specs.Inner.{Decides}
+use Rattle.rules.specs.Inner.{Fulfils}
 use Rattle.rules.specs.declared.Heap.{Heap}
 use Rattle.rules.specs.declared.Answer.{Answer}
 use Rattle.rules.specs.declared.Decided.{Decided}
@@ -23,5 +23,5 @@ module _ (ws : List ℕ) {h : Heap} (loaded : h ≡ heapOf ws) where
 
   -- what a call that may change the heap decided, in words again and written
   pub shown : (x : Call) (m : List ℕ) (d : Decided) {m′ hs two : List ℕ} {r : ℕ}
-      → Decides (after x h m) m d → Carried d r hs two m m′ → Shows (after x (heapOf ws) m) r hs two m′
+      → Fulfils (after x h m) m d → Carried d r hs two m m′ → Shows (after x (heapOf ws) m) r hs two m′
   shown x m d i t = rw (← loaded, ← i .answer, ← i .heap) (t .0, t .1, t .2 ∙ i .heads .arena)

@@ -19,12 +19,12 @@ use Rattle.rules.specs.declared.Heap.{Heap}
 use Rattle.rules.specs.declared.Decided.{Decided}
 use Rattle.rules.specs.declared.Refusal.the-variants.{PastArena}
 use Rattle.rules.specs.declared.Answer.the-variants.{Extended}
-use Rattle.rules.specs.Inner.{put, nothing, written, refusing, Relinks, Decides, Fair, behind, extending}
+use Rattle.rules.specs.Inner.{put, nothing, written, refusing, Relinks, Fulfils, Fair, behind, extending}
 use Rattle.rules.proofs.Walk.{rules-keep, walks}
 use Rattle.rules.proofs.Rises.{rises-back, sound-rises}
 use Rattle.rules.proofs.Lists.{heads-to}
 use Rattle.rules.proofs.Relink.{put-same}
-use Rattle.rules.proofs.Written.{decides-refused, decides-changed, decides-sound}
+use Rattle.rules.proofs.Written.{fulfils-refused, fulfils-changed, fulfils-sound}
 use Rattle.walk.specs.Walk.{startOf, lastPlace}
 use Rattle.walk.specs.Settled.{Ready, Settled}
 use Rattle.walk.specs.declared.Near.{Near}
@@ -94,7 +94,7 @@ module _ {h : Heap} {m : List ℕ} {near : Near} (k : Sought h m (h .top) near) 
 -- the span at top is freed, and top rises by it
 pub grown-is : (h : Heap) (m : List ℕ) (by : ℕ) → Fair h → {r : Relinked}
     → Linked (h .base) m (freed (hole (h .top) (downTo grain by)) (holes h m)) r
-    → Decides (growing by h m) m
+    → Fulfils (growing by h m) m
     (record {
       heap =
           record {
@@ -114,7 +114,7 @@ grown-is h m by fair l =
     let s = downTo grain by in
     let e : h .top .0 + s - h .bottom .0 ≡ size h + s = omega arith in
     rw e
-    (decides-changed h m (Extended (size h + s) (by % grain)) (freed (hole (h .top) s) (holes h m))
+    (fulfils-changed h m (Extended (size h + s) (by % grain)) (freed (hole (h .top) s) (holes h m))
     (plus (h .top) s) (by % grain) (h .used) l)
 
 -- a list that stands is written by no head
@@ -130,25 +130,25 @@ abbrev pub Fits : Heap → ℕ → Type 0
 Fits h by = h .top .0 + h .pending + by ≤ h .base .0 + h .len
 
 module _ (h : Heap) (m : List ℕ) (by : ℕ) (ready : Ready h m) (sound : soundHoles h (holes h m) ≡ true) where
-  pub past-is : h .base .0 + h .len < h .top .0 + h .pending + by → Decides (extendedIfSound by h m) m (refusing h PastArena)
+  pub past-is : h .base .0 + h .len < h .top .0 + h .pending + by → Fulfils (extendedIfSound by h m) m (refusing h PastArena)
   unfolding extending
   past-is l =
-      decides-sound h m (holes h m) (extending by h (holes h m)) sound
-      (rw (lt-ltb (h .base .0 + h .len) (h .top .0 + h .pending + by) l) (decides-refused h m PastArena))
+      fulfils-sound h m (holes h m) (extending by h (holes h m)) sound
+      (rw (lt-ltb (h .base .0 + h .len) (h .top .0 + h .pending + by) l) (fulfils-refused h m PastArena))
 
   module _ (fits : Fits h by) where
-    pub gathers-is : h .pending + by < minSize → Decides (extendedIfSound by h m) m (gathering h (h .pending + by))
+    pub gathers-is : h .pending + by < minSize → Fulfils (extendedIfSound by h m) m (gathering h (h .pending + by))
     unfolding extending extended gathered
     gathers-is l =
         let sum = h .pending + by in
-        decides-sound h m (holes h m) (extending by h (holes h m)) sound
+        fulfils-sound h m (holes h m) (extending by h (holes h m)) sound
         (rw (le-ltb (h .base .0 + h .len) (h .top .0 + h .pending + by) fits, lt-ltb sum minSize l)
-        (decides-changed h m (Extended (size h) sum) (holes h m) (h .top) sum (h .used)
+        (fulfils-changed h m (Extended (size h) sum) (holes h m) (h .top) sum (h .used)
         (stay h m (record { ready = ready; sound = sound }))))
 
-    pub grows-is : {d : Decided} → minSize ≤ h .pending + by → Decides (growing (h .pending + by) h m) m d
-        → Decides (extendedIfSound by h m) m d
+    pub grows-is : {d : Decided} → minSize ≤ h .pending + by → Fulfils (growing (h .pending + by) h m) m d
+        → Fulfils (extendedIfSound by h m) m d
     unfolding extending extended
     grows-is l p =
-        decides-sound h m (holes h m) (extending by h (holes h m)) sound
+        fulfils-sound h m (holes h m) (extending by h (holes h m)) sound
         (rw (le-ltb (h .base .0 + h .len) (h .top .0 + h .pending + by) fits, le-ltb (h .pending + by) minSize l) p)

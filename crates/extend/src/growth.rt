@@ -22,7 +22,7 @@ ghost use Rattle.rules.specs.Fixed.{grain};
 ghost use Rattle.rules.specs.Round.{downTo};
 ghost use Rattle.rules.specs.Holes.{hole};
 ghost use Rattle.rules.specs.Sound.{holes};
-ghost use Rattle.rules.specs.Inner.{Fair, Decides};
+ghost use Rattle.rules.specs.Inner.{Fair, Fulfils};
 ghost use Rattle.walk.specs.Settled.{Ready, Settled};
 ghost use Rattle.joining.specs.Span.{Free};
 ghost use Rattle.extend.specs.Growth.{gathering, growing, extendedIfSound};
@@ -48,7 +48,7 @@ fn gather(h: Heap, pending: u64) -> Decided
 // All but the last few bytes become a free span at top, behind the last hole, and top rises by it.
 fn grow(h: Heap, arena: &[u8], cursor: Cursor, by: u64) -> Decided
     requires { ⌜ Settled h (now arena) × (h .top .0 + by ≤ h .base .0 + h .len) × Free h (holes h (now arena)) cursor (hole (h .top) (downTo grain by)) ⌝ }
-    ensures { λ d. ⌜ Decides (growing by h (now (arena .entry))) (now (arena .entry)) d ⌝ }
+    ensures { λ d. ⌜ Fulfils (growing by h (now (arena .entry))) (now (arena .entry)) d ⌝ }
 {
     let pending = by % GRAIN;
     let size = by - pending;
@@ -75,7 +75,7 @@ fn grow(h: Heap, arena: &[u8], cursor: Cursor, by: u64) -> Decided
 // Extends the heap by bytes of the arena behind top, or refuses with 5 or 9.
 pub fn extend_top(h: Heap, arena: &[u8], by: u64) -> Decided
     requires { ⌜ Ready h (now arena) ⌝ }
-    ensures { λ d. ⌜ Decides (extendedIfSound by h (now (arena .entry))) (now (arena .entry)) d ⌝ }
+    ensures { λ d. ⌜ Fulfils (extendedIfSound by h (now (arena .entry))) (now (arena .entry)) d ⌝ }
 {
     let top = h.top;
     let spot = neighbours(h, arena, top);

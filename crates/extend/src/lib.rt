@@ -13,11 +13,11 @@ use rules::Done;
 use rules::Heap;
 ghost use Rattle.rules.specs.Calls as Calls;
 ghost use Rattle.rules.specs.Outcome.{Is, after};
-ghost use Rattle.rules.specs.Inner.{Decides};
+ghost use Rattle.rules.specs.Inner.{Fulfils};
 
 // What an extension comes to: the tests 3, 4, 5, 9, and the bytes that accumulate or become free.
 pub fn decide(h: Heap, arena: &[u8], by: u64) -> Decided
-    ensures { λ d. ⌜ Decides (after (Calls.extend by) h (now (arena .entry))) (now (arena .entry)) d ⌝ }
+    ensures { λ d. ⌜ Fulfils (after (Calls.extend by) h (now (arena .entry))) (now (arena .entry)) d ⌝ }
 {
     let checked = check(h, arena_len(arena));
     if let Checked::No(r) = checked {

@@ -15,8 +15,8 @@ use Rattle.rules.specs.declared.Addr.{Addr}
 use Rattle.rules.specs.declared.Heap.{Heap}
 use Rattle.rules.specs.declared.Refusal.the-variants.{BadSpan}
 use Rattle.rules.specs.declared.Answer.the-variants.{Freed}
-use Rattle.rules.specs.Inner.{freeing, refusing, Decides}
-use Rattle.rules.proofs.Written.{decides-refused, decides-sound, decides-changed}
+use Rattle.rules.specs.Inner.{freeing, refusing, Fulfils}
+use Rattle.rules.proofs.Written.{fulfils-refused, fulfils-sound, fulfils-changed}
 use Rattle.walk.specs.declared.Near.{Near}
 use Rattle.joining.specs.Span.{Free}
 use Rattle.free.specs.SpanTests.{Around, mayFree, frees, freedIfSound}
@@ -38,11 +38,11 @@ module _ {h : Heap} {m : List ℕ} {a : Addr} {near : Near} (k : Known h m a nea
     decides : mayFree h near (hole a s) align ≡ not (any (refusal8 h (holes h m) (hole a s) align))
     decides = may-free h near (hole a s) (holes h m) (k .sought .fair) (k .sound) (lies (k .sought)) least align
 
-    pub span-refused : mayFree h near (hole a s) align ≡ false → Decides (freedIfSound s a align h m) m (refusing h BadSpan)
+    pub span-refused : mayFree h near (hole a s) align ≡ false → Fulfils (freedIfSound s a align h m) m (refusing h BadSpan)
     unfolding freeing
     span-refused e =
         let t = not-false (any (refusal8 h (holes h m) (hole a s) align)) (sym decides ∙ e) in
-        decides-sound h m (holes h m) (frees s a align h m) (k .sound) (rw t (decides-refused h m BadSpan))
+        fulfils-sound h m (holes h m) (frees s a align h m) (k .sound) (rw t (fulfils-refused h m BadSpan))
 
     module _ (may : mayFree h near (hole a s) align ≡ true) where
       pub span-free : Free h (holes h m) (near .cursor) (hole a s)
@@ -52,7 +52,7 @@ module _ {h : Heap} {m : List ℕ} {a : Addr} {near : Near} (k : Known h m a nea
       span-used = used-enough h near (hole a s) (holes h m) (k .sought .fair) (k .sound) (lies (k .sought)) least align may
 
       pub span-freed : {r : Relinked} → Linked (h .base) m (freed (hole a s) (holes h m)) r
-          → Decides (freedIfSound s a align h m) m
+          → Fulfils (freedIfSound s a align h m) m
           (record {
             heap =
                 record {
@@ -70,6 +70,6 @@ module _ {h : Heap} {m : List ℕ} {a : Addr} {near : Near} (k : Known h m a nea
       unfolding freeing given
       span-freed l =
           let t = not-true (any (refusal8 h (holes h m) (hole a s) align)) (sym decides ∙ may) in
-          decides-sound h m (holes h m) (frees s a align h m) (k .sound)
+          fulfils-sound h m (holes h m) (frees s a align h m) (k .sound)
           (rw t
-          (decides-changed h m (Freed s (h .used - s)) (freed (hole a s) (holes h m)) (h .top) (h .pending) (h .used - s) l))
+          (fulfils-changed h m (Freed s (h .used - s)) (freed (hole a s) (holes h m)) (h .top) (h .pending) (h .used - s) l))

@@ -15,7 +15,7 @@ use walk::walk;
 ghost use mathlib.Core.Path.{_≡_};
 ghost use Prim.Native.Nat.{_%_};
 ghost use Rattle.rules.specs.Fixed.{grain};
-ghost use Rattle.rules.specs.Inner.{Decides};
+ghost use Rattle.rules.specs.Inner.{Fulfils};
 ghost use Rattle.walk.specs.Settled.{Asked};
 ghost use Rattle.walk.specs.Settled.{Ready};
 ghost use Rattle.free.specs.SpanTests.{freedIfSound};
@@ -23,7 +23,7 @@ ghost use Rattle.free.specs.SpanTests.{freedIfSound};
 // Frees a span of rounded size, or refuses with 5 or 8.
 pub fn deallocate(h: Heap, arena: &[u8], addr: Addr, size: u64, align: u64) -> Decided
     requires { ⌜ Ready h (now arena) × Asked size align × (size % grain ≡ 0) ⌝ }
-    ensures { λ d. ⌜ Decides (freedIfSound size addr align h (now (arena .entry))) (now (arena .entry)) d ⌝ }
+    ensures { λ d. ⌜ Fulfils (freedIfSound size addr align h (now (arena .entry))) (now (arena .entry)) d ⌝ }
 {
     let spot = neighbours(h, arena, addr);
     let Spot::Between(near) = spot else {

@@ -15,11 +15,11 @@ use Rattle.rules.specs.declared.Heap.{Heap}
 use Rattle.rules.specs.declared.Refusal.{Refusal}
 use Rattle.rules.specs.declared.Refusal.the-variants.{Unopened, OtherLength, NotSound}
 use Rattle.rules.proofs.Cases.{cases, by-eq}
-use Rattle.rules.specs.Inner.{Lent, refusing, Decides}
+use Rattle.rules.specs.Inner.{Lent, refusing, Fulfils}
 use Rattle.rules.proofs.Walk.{sound-fair}
 use Rattle.rules.proofs.Decide.{Opens}
 use Rattle.rules.proofs.Calls.{outcome-3, outcome-4, outcome-5}
-use Rattle.rules.proofs.Written.{decides-refused, decides-left}
+use Rattle.rules.proofs.Written.{fulfils-refused, fulfils-left}
 use Rattle.numbers.specs.declared.Checked.{Checked}
 use Rattle.numbers.specs.declared.Checked.the-variants.{Fair, No}
 use Rattle.numbers.specs.Checks.{checkedOf}
@@ -69,9 +69,9 @@ refuses-call c h m later {r} v =
     (λ t. let k = checked-5 (length m) h n d t in let e : r ≡ NotSound = cc in rw e (outcome-5 c h m later n d t)))
     (λ d. let k = checked-4 (length m) h n d in let e : r ≡ OtherLength = cc in rw e (outcome-4 c h m later n d)))
 
-pub decides-no : (c : Call) (h : Heap) (m : List ℕ) → Opens c ≡ false → {r : Refusal} → checkedOf (length m) h ≡ No r
-    → Decides (after c h m) m (refusing h r)
-decides-no c h m later {r} v = decides-left c h m (refused r) (refuses-call c h m later v) (decides-refused h m r)
+pub fulfils-no : (c : Call) (h : Heap) (m : List ℕ) → Opens c ≡ false → {r : Refusal} → checkedOf (length m) h ≡ No r
+    → Fulfils (after c h m) m (refusing h r)
+fulfils-no c h m later {r} v = fulfils-left c h m (refused r) (refuses-call c h m later v) (fulfils-refused h m r)
 
 -- ---- as a call parts the two by an `if let`
 
@@ -92,5 +92,5 @@ module _ {v : Checked} {len : ℕ} (h : Heap) (m : List ℕ) (lent : len ≡ len
       record { lent = record { fair = sound-fair h (p .1); lent = sym lent ∙ p .0 }; numbers = p .1 }
 
   -- the call refuses
-  pub tested-no : (c : Call) → Opens c ≡ false → {r : Refusal} → v ≡ No r → Decides (after c h m) m (refusing h r)
-  tested-no c later e = decides-no c h m later (rw lent at (sym said ∙ e))
+  pub tested-no : (c : Call) → Opens c ≡ false → {r : Refusal} → v ≡ No r → Fulfils (after c h m) m (refusing h r)
+  tested-no c later e = fulfils-no c h m later (rw lent at (sym said ∙ e))

@@ -20,9 +20,9 @@ use Rattle.rules.specs.declared.Heap.{Heap}
 use Rattle.rules.specs.declared.Decided.{Decided}
 use Rattle.rules.specs.declared.Refusal.the-variants.{BadOpening, AlreadyOpened}
 use Rattle.rules.specs.declared.Answer.the-variants.{Opened}
-use Rattle.rules.specs.Inner.{put, write, nothing, written, refusing, Decides}
+use Rattle.rules.specs.Inner.{put, write, nothing, written, refusing, Fulfils}
 use Rattle.rules.proofs.Calls.{opening-2, opening-1, opening-on}
-use Rattle.rules.proofs.Written.{decides-refused, decides-left}
+use Rattle.rules.proofs.Written.{fulfils-refused, fulfils-left}
 use Rattle.numbers.proofs.Refused.{may-open}
 use Rattle.rules.proofs.Multiples.{above-is}
 
@@ -48,7 +48,7 @@ begunWith k =
 -- that head lies in the arena, and is all that the new heap's list has
 begins : (len : ℕ) (base : Addr) (named : ℕ) (h : Heap) (m : List ℕ) {k : Heap}
     → length m ≡ len → any (refusal1 len base named) ≡ false → k ≡ opened len base named
-    → Decides
+    → Fulfils
     (leaves h m (done (Opened (raised grain base) (onlyHole base named .size)) (opened len base named) (onlyHole base named ∷ [])))
     m (begunWith k)
 unfolding leaves opened firstOf put written putHeads
@@ -69,19 +69,19 @@ begins len base named h m lent e k =
     })
 
 module _ (base : Addr) (named : ℕ) (h : Heap) (m : List ℕ) where
-  pub begun-2 : (h .bottom .0 ≡ 0 → ⊥) → Decides (after (opening base named) h m) m (refusing h AlreadyOpened)
-  begun-2 n = decides-left (opening base named) h m (refused AlreadyOpened) (opening-2 base named h m n) (decides-refused h m AlreadyOpened)
+  pub begun-2 : (h .bottom .0 ≡ 0 → ⊥) → Fulfils (after (opening base named) h m) m (refusing h AlreadyOpened)
+  begun-2 n = fulfils-left (opening base named) h m (refused AlreadyOpened) (opening-2 base named h m n) (fulfils-refused h m AlreadyOpened)
 
   -- by what is said of refusal 1
   module _ (z : h .bottom .0 ≡ 0) {len : ℕ} (lent : length m ≡ len) {b : Bool} (said : b ≡ any (refusal1 len base named)) where
-    pub begun-1 : b ≡ true → Decides (after (opening base named) h m) m (refusing h BadOpening)
+    pub begun-1 : b ≡ true → Fulfils (after (opening base named) h m) m (refusing h BadOpening)
     begun-1 e =
-        decides-left (opening base named) h m (refused BadOpening)
+        fulfils-left (opening base named) h m (refused BadOpening)
         (opening-1 base named h m z (rw lent (sym said ∙ e)))
-        (decides-refused h m BadOpening)
+        (fulfils-refused h m BadOpening)
 
-    pub begun : {k : Heap} → b ≡ false → k ≡ opened len base named → Decides (after (opening base named) h m) m (begunWith k)
+    pub begun : {k : Heap} → b ≡ false → k ≡ opened len base named → Fulfils (after (opening base named) h m) m (begunWith k)
     begun e k =
         let no = sym said ∙ e in
-        decides-left (opening base named) h m _ (opening-on base named h m z (rw lent no))
+        fulfils-left (opening base named) h m _ (opening-on base named h m z (rw lent no))
         (rw lent (begins len base named h m lent no k))

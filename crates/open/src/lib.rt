@@ -32,7 +32,7 @@ ghost use Rattle.rules.specs.Calls as Calls;
 ghost use Rattle.rules.specs.Calls.{opened};
 ghost use Rattle.rules.specs.Refusals.{refusal1};
 ghost use Rattle.rules.specs.Outcome.{Is, after};
-ghost use Rattle.rules.specs.Inner.{Decides};
+ghost use Rattle.rules.specs.Inner.{Fulfils};
 
 // An unopened heap: bottom is 0 and so is the rest.
 pub fn empty() -> Heap
@@ -73,7 +73,7 @@ fn new(len: u64, base: Addr, named: u64) -> Heap
 // What an opening comes to on any arena of `len` bytes, since it reads none of them: the tests 2 and 1,
 // and the one hole that the heap begins with.
 pub fn decide(h: Heap, len: u64, base: Addr, named: u64) -> Decided
-    ensures { λ d. ⌜ ((m : List ℕ) → length m ≡ len → Decides (after (Calls.opening base named) h m) m d) ⌝ }
+    ensures { λ d. ⌜ ((m : List ℕ) → length m ≡ len → Fulfils (after (Calls.opening base named) h m) m d) ⌝ }
 {
     if h.bottom.0 != 0 {
         return refuse(h, Refusal::AlreadyOpened);

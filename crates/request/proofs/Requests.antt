@@ -18,16 +18,16 @@ use Rattle.rules.specs.declared.Refusal.{Refusal}
 use Rattle.rules.specs.declared.Refusal.the-variants.{NotSound, BadLayout}
 use Rattle.rules.specs.declared.Layout.{Layout}
 use Rattle.rules.specs.declared.Layout.the-variants.{Rounded, Bad}
-use Rattle.rules.specs.Inner.{Lent, refusing, Decides}
+use Rattle.rules.specs.Inner.{Lent, refusing, Fulfils}
 use Rattle.rules.proofs.Layout as Layouts
 use Rattle.rules.proofs.Layouts.{rounded-least, rounded-multiple, layout-valid}
 use Rattle.rules.proofs.Walk.{sound-fair}
 use Rattle.rules.proofs.Calls.{layout-6}
-use Rattle.rules.proofs.Written.{decides-later}
+use Rattle.rules.proofs.Written.{fulfils-later}
 use Rattle.numbers.specs.Checks.{checkedOf}
 use Rattle.numbers.specs.declared.Checked.{Checked}
 use Rattle.numbers.specs.declared.Checked.the-variants as checked
-use Rattle.numbers.proofs.Verdicts.{passes, decides-no}
+use Rattle.numbers.proofs.Verdicts.{passes, fulfils-no}
 use Rattle.walk.specs.Settled.{Asked}
 use Rattle.request.specs.declared.Request.the-variants.{Of, No}
 use Rattle.request.specs.Requested.{byLayout, byNumbers, requestOf}
@@ -49,17 +49,17 @@ module _ (h : Heap) (m : List ℕ) (s align : ℕ) where
   -- it is refused
   no-by : (c : Change) {ts : List Test} → changeTests c h (holes h m) ≡ test BadLayout (refusal6 s align) ∷ ts → {r : Refusal}
       → (v : Checked) → checkedOf (length m) h ≡ v → (l : Layout) → layoutOf s align ≡ l → byNumbers v l h m ≡ No r
-      → Decides (after (change c) h m) m (refusing h r)
+      → Fulfils (after (change c) h m) m (refusing h r)
   unfolding byNumbers byLayout
-  no-by c t {r} (checked.No x) k l q e = let a : x ≡ r = cc in rw (← a) (decides-no (change c) h m refl k)
+  no-by c t {r} (checked.No x) k l q e = let a : x ≡ r = cc in rw (← a) (fulfils-no (change c) h m refl k)
   no-by c t checked.Fair k (Rounded w) q e = let z : _≡_ {A = ℕ} 0 1 = cc in absurd (omega arith)
   no-by c t {r} checked.Fair k Bad q e =
       let p = passes (length m) h k in
       let a : cond (soundHoles h (holes h m)) BadLayout NotSound ≡ r = cc in
-      rw (← a) (decides-later (change c) h m BadLayout (layout-6 h m (p .0) (p .1) c s align t q))
+      rw (← a) (fulfils-later (change c) h m BadLayout (layout-6 h m (p .0) (p .1) c s align t q))
 
   pub requested-no : (c : Change) {ts : List Test} → changeTests c h (holes h m) ≡ test BadLayout (refusal6 s align) ∷ ts → {r : Refusal}
-      → requestOf h m s align ≡ No r → Decides (after (change c) h m) m (refusing h r)
+      → requestOf h m s align ≡ No r → Fulfils (after (change c) h m) m (refusing h r)
   requested-no c t e = no-by c t (checkedOf (length m) h) refl (layoutOf s align) refl e
 
   -- it goes on

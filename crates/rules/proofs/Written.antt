@@ -21,7 +21,7 @@ use Rattle.rules.specs.Holes.{putHead}
 use Rattle.rules.specs.Sound.{soundHoles, holes}
 use Rattle.rules.specs.Calls.{Call, Outcome, refused, changed}
 use Rattle.rules.specs.Outcome.{outcome, After, leaves, after, Is}
-use Rattle.rules.specs.Inner.{put, written, refusing, Relinks, Decides, sifted}
+use Rattle.rules.specs.Inner.{put, written, refusing, Relinks, Fulfils, sifted}
 use Rattle.rules.proofs.Cases.{by-test}
 use Rattle.rules.proofs.Heads.{putHead-length}
 use Rattle.rules.proofs.Calls.{sifted-refused}
@@ -43,9 +43,9 @@ put-length w m =
 
 module _ (h : Heap) (m : List ℕ) where
   -- a refused call writes nothing
-  pub decides-refused : (r : Refusal) → Decides (leaves h m (refused r)) m (refusing h r)
+  pub fulfils-refused : (r : Refusal) → Fulfils (leaves h m (refused r)) m (refusing h r)
   unfolding leaves put written
-  decides-refused r =
+  fulfils-refused r =
       record {
         answer = refl;
         heap = refl;
@@ -53,9 +53,9 @@ module _ (h : Heap) (m : List ℕ) where
       }
 
   -- a changed list, with a new top, pending and used
-  pub decides-changed : (a : Answer) (ks : List Hole) (top : Addr) (pending used : ℕ) {first : Place} {ws : Writes}
+  pub fulfils-changed : (a : Answer) (ks : List Hole) (top : Addr) (pending used : ℕ) {first : Place} {ws : Writes}
       → Relinks (h .base) m ks first ws
-      → Decides (leaves h m (changed a h ks top pending used)) m
+      → Fulfils (leaves h m (changed a h ks top pending used)) m
       (record {
         heap =
             record {
@@ -71,33 +71,33 @@ module _ (h : Heap) (m : List ℕ) where
         heads = ws;
       })
   unfolding leaves
-  decides-changed a ks top pending used r = record { answer = refl; heap = rw (r .first); heads = r .heads }
+  fulfils-changed a ks top pending used r = record { answer = refl; heap = rw (r .first); heads = r .heads }
 
   -- an outcome that waits on the rules on the holes: where they are kept, and where one is broken
   module _ (ks : List Hole) (o : Outcome) where
-    pub decides-sound : {d : Decided} → soundHoles h ks ≡ true → Decides (leaves h m o) m d → Decides (leaves h m (sifted h ks o)) m d
+    pub fulfils-sound : {d : Decided} → soundHoles h ks ≡ true → Fulfils (leaves h m o) m d → Fulfils (leaves h m (sifted h ks o)) m d
     unfolding sifted
-    decides-sound e p = rw e p
+    fulfils-sound e p = rw e p
 
-    pub decides-broken : soundHoles h ks ≡ false → Decides (leaves h m (sifted h ks o)) m (refusing h NotSound)
+    pub fulfils-broken : soundHoles h ks ≡ false → Fulfils (leaves h m (sifted h ks o)) m (refusing h NotSound)
     unfolding sifted
-    decides-broken e = rw e (decides-refused NotSound)
+    fulfils-broken e = rw e (fulfils-refused NotSound)
 
 -- ---- and what a call is
 
 module _ (c : Call) (h : Heap) (m : List ℕ) where
-  pub decides-left : (o : Outcome) {d : Decided} → outcome c h m ≡ o → Decides (leaves h m o) m d → Decides (after c h m) m d
+  pub fulfils-left : (o : Outcome) {d : Decided} → outcome c h m ≡ o → Fulfils (leaves h m o) m d → Fulfils (after c h m) m d
   unfolding after
-  decides-left o e p = rw e p
+  fulfils-left o e p = rw e p
 
   -- a refusal that comes after 5
-  pub decides-later : (r : Refusal) → outcome c h m ≡ sifted h (holes h m) (refused r)
-      → Decides (after c h m) m (refusing h (cond (soundHoles h (holes h m)) r NotSound))
-  decides-later r e =
+  pub fulfils-later : (r : Refusal) → outcome c h m ≡ sifted h (holes h m) (refused r)
+      → Fulfils (after c h m) m (refusing h (cond (soundHoles h (holes h m)) r NotSound))
+  fulfils-later r e =
       let x = cond (soundHoles h (holes h m)) r NotSound in
-      decides-left (refused x) (e ∙ sifted-refused h (holes h m) r) (decides-refused h m x)
+      fulfils-left (refused x) (e ∙ sifted-refused h (holes h m) r) (fulfils-refused h m x)
 
 -- a decision written does what the definition says
-pub is-written : {a : After} {m m′ : List ℕ} {d : Decided} {r : Done} → Decides a m d
+pub is-written : {a : After} {m m′ : List ℕ} {d : Decided} {r : Done} → Fulfils a m d
     → (r .answer ≡ d .answer) × (r .heap ≡ d .heap) × (m′ ≡ written (d .heads) m) → Is a r m′
 is-written p e = (e .0 ∙ p .answer, e .1 ∙ p .heap, e .2 ∙ p .heads .arena)

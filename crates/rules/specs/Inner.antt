@@ -77,8 +77,8 @@ pub record Relinks (base : Addr) (m : List ℕ) (ks : List Hole) (p : Place) (ws
   pub first : p ≡ firstOf base ks
   pub heads : Leaves m ws (putHeads base ks m)
 
--- a decision on the arena m is what the definition says
-pub record Decides (a : After) (m : List ℕ) (d : Decided) : Type 0 where
+-- a decision on the arena m fulfils what the definition says
+pub record Fulfils (a : After) (m : List ℕ) (d : Decided) : Type 0 where
   pub answer : d .answer ≡ a .answer
   pub heap : d .heap ≡ a .heap
   pub heads : Leaves m (d .heads) (a .arena)

@@ -16,7 +16,8 @@ same-length c = search needs
 returns : tie.Need-returns
 returns c =
     let w = c .before .before in
-    is-written (w .before .before .decide .ensures) (w .write .ensures)
+    let after-decide = w .before .before in
+    is-written (after-decide .decide .ensures) (w .write .ensures)
 
 pub allocate-spec : {M : Type 1} → statement M
 allocate-spec = tie.close (tie.spec decide-requires write-requires same-length returns)

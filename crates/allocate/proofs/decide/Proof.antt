@@ -4,7 +4,7 @@ use borrow.Author.Needs.{needs}
 use Rattle.rules.specs.Changes.{Change}
 use Rattle.rules.specs.Calls.{allocate}
 use Rattle.rules.proofs.Calls.{allocate-on}
-use Rattle.rules.proofs.Written.{decides-left}
+use Rattle.rules.proofs.Written.{fulfils-left}
 use Rattle.request.proofs.Requests.{Requested, requested-no, requested}
 use Rattle.allocate.proofs.decide.Statement.{statement}
 use Rattle.allocate.proofs.decide.Tie as tie
@@ -58,7 +58,7 @@ returns-2 c =
     let y = c .before .before in
     let q = passed y in
     let s = start (tests y) in
-    decides-left (allocate (s .args .size) (s .args .align)) (s .args .h) (s .args .arena .now) _
+    fulfils-left (allocate (s .args .size) (s .args .align)) (s .args .h) (s .args .arena .now) _
     (allocate-on (s .args .h) (s .args .arena .now) (q .lent .lent) (q .numbers) (s .args .size) (s .args .align) (q .layout))
     (c .allocate-first-fit .ensures)
 

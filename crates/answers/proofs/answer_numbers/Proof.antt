@@ -54,7 +54,7 @@ returns-6 c = rw (c .before .a6 .given .1)
 
 returns-7 : tie.Need-returns-7
 unfolding answerNumbers
-returns-7 c = rw (c .before .before .a7 .given .1) (c .refusal-numbers .ensures)
+returns-7 c = let after-a7 = c .before .before in rw (after-a7 .a7 .given .1) (c .refusal-numbers .ensures)
 
 pub answer-numbers-spec : {M : Type 1} → statement M
 answer-numbers-spec =

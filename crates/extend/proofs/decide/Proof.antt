@@ -3,7 +3,7 @@ use mathlib.Core.Path.{refl}
 use borrow.Author.Needs.{needs}
 use Rattle.rules.specs.Calls.{extend}
 use Rattle.rules.proofs.Calls.{extend-on}
-use Rattle.rules.proofs.Written.{decides-left}
+use Rattle.rules.proofs.Written.{fulfils-left}
 use Rattle.numbers.proofs.Verdicts.{Tested, tested, tested-no}
 use Rattle.extend.proofs.decide.Statement.{statement}
 use Rattle.extend.proofs.decide.Tie as tie
@@ -54,7 +54,7 @@ returns-2 : tie.Need-returns-2
 returns-2 c =
     let t = c .before in
     let s = start (checked t) in
-    decides-left (extend (s .args .by)) (s .args .h) (s .args .arena .now) _
+    fulfils-left (extend (s .args .by)) (s .args .h) (s .args .arena .now) _
     (extend-on (s .args .h) (s .args .arena .now) (ruled t .lent .lent) (ruled t .numbers) (s .args .by))
     (c .extend-top .ensures)
 

@@ -32,15 +32,13 @@ there c =
 -- ---- the needs
 
 try-merge-next-requires : tie.Need-try-merge-next-requires
-try-merge-next-requires c κs =
-    let s = c .before .before .before .before .before in
-    may-merge (s .pre .0) (s .pre .1)
+try-merge-next-requires c κs = let s = c .before .before .before .before .before in may-merge (s .pre .0) (s .pre .1)
 
 place-of-requires : tie.Need-place-of-requires
 place-of-requires c κs = bounds (c .before) .low
 
 ends-at-requires : tie.Need-ends-at-requires
-ends-at-requires c κs = let s = start (c .before .before) in may-end (s .pre .0) (s .pre .1)
+ends-at-requires c κs = let after-try-merge-next = c .before .before in let s = start after-try-merge-next in may-end (s .pre .0) (s .pre .1)
 
 link-requires : tie.Need-link-requires
 link-requires c κs = bounds (merged (c .before)) .before
@@ -60,7 +58,8 @@ read-head-requires c κs = bounds (merged (c .before)) .before (there c)
 add-t17 : tie.Need-add-t17
 add-t17 c =
     let r = c .before .before in
-    let fits = bounds (merged (r .before .before)) .sum (there (r .before)) in
+    let after-ends-at = r .before .before in
+    let fits = bounds (merged after-ends-at) .sum (there (r .before)) in
     rw (r .read-head .ensures) (omega arith)
 
 nothing-requires : tie.Need-nothing-requires

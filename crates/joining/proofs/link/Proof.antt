@@ -13,7 +13,7 @@ unfolding linkedTo
 returns c = rw (eq-eqb _ _ (c .before .if1 .taken), c .nothing .ensures)
 
 read-head-requires : tie.Need-read-head-requires
-read-head-requires c κs = c .before .before .before .pre (c .if1 .left)
+read-head-requires c κs = let start = c .before .before .before in start .pre (c .if1 .left)
 
 returns-2 : tie.Need-returns-2
 unfolding linkedTo

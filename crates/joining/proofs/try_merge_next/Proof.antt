@@ -6,10 +6,12 @@ use Rattle.joining.specs.Span.{MayMerge, mergedHead}
 use Rattle.joining.proofs.try_merge_next.Statement.{statement}
 use Rattle.joining.proofs.try_merge_next.Tie as tie
 
+abbrev start : tie.Else1 → tie.Start
+start c = c .before .before .before
+
 -- what is asked of the caller, once there is a hole behind
-asked : (c : tie.Else1) → MayMerge (c .before .before .before .args .base) (c .before .before .before .args .arena .now)
-    (c .before .before .before .args .span) (c .before .before .before .args .hole)
-asked c = c .before .before .before .pre
+asked : (c : tie.Else1) → MayMerge (start c .args .base) (start c .args .arena .now) (start c .args .span) (start c .args .hole)
+asked c = start c .pre
 
 abbrev behind : tie.After-addr-of → tie.Else1
 behind c = c .before .before
@@ -26,17 +28,16 @@ addr-of-requires c κs = let s = c .before in omega (arith, asked s .low (s .if1
 
 returns-2 : tie.Need-returns-2
 unfolding mergedHead
-returns-2 c =
-    let a = c .before .before in
-    rw (ne-eqb _ _ (behind a .if1 .left), ne-eqb _ _ (rw (a .addr-of .ensures) at (c .if2 .taken)))
+returns-2 c = let a = c .before .before in rw (ne-eqb _ _ (behind a .if1 .left), ne-eqb _ _ (rw (a .addr-of .ensures) at (c .if2 .taken)))
 
 read-head-requires : tie.Need-read-head-requires
-read-head-requires c κs = let s = behind (c .before .before) in asked s .inside (s .if1 .left)
+read-head-requires c κs = let after-addr-of = c .before .before in let s = behind after-addr-of in asked s .inside (s .if1 .left)
 
 add-t9 : tie.Need-add-t9
 add-t9 c =
     let r = c .before .before in
-    let s = behind (r .before .before .before) in
+    let after-addr-of = r .before .before .before in
+    let s = behind after-addr-of in
     let fits = asked s .sum (s .if1 .left) in
     rw (r .read-head .ensures) (omega arith)
 

@@ -35,25 +35,29 @@ align-up-size-requires c κs = (grain-power, search needs)
 
 sub-if3 : tie.Need-sub-if3
 sub-if3 c =
+    let else1 = c .before .before .before in
     let align = start c .args .align in
     let l : align < 2 ^ width = omega arith in
-    let e = sym (ones-in width align l) ∙ c .before .before .before .if1 .left in
+    let e = sym (ones-in width align l) ∙ else1 .if1 .left in
     power-half 63 (one-power width align l e) l
 
 returns-3 : tie.Need-returns-3
 returns-3 c =
+    let after-at-least-min = c .before .before in
     let size = start (c .before) .args .size in
     let align = start (c .before) .args .align in
-    let r = is-rounded size (c .before .before .at-least-min .ensures) (c .before .align-up-size .ensures) in
+    let r = is-rounded size (after-at-least-min .at-least-min .ensures) (c .before .align-up-size .ensures) in
     sym (layout-large size align (omega arith))
 
 returns-4 : tie.Need-returns-4
 returns-4 c =
+    let after-at-least-min = c .before .before in
+    let else1 = after-at-least-min .before .before in
     let size = start (c .before) .args .size in
     let align = start (c .before) .args .align in
     let l : align < 2 ^ width = omega arith in
-    let e = sym (ones-in width align l) ∙ c .before .before .before .before .if1 .left in
-    let r = is-rounded size (c .before .before .at-least-min .ensures) (c .before .align-up-size .ensures) in
+    let e = sym (ones-in width align l) ∙ else1 .if1 .left in
+    let r = is-rounded size (after-at-least-min .at-least-min .ensures) (c .before .align-up-size .ensures) in
     rw r (sym (layout-fits size align e (omega arith)))
 
 pub align-layout-spec : {M : Type 1} → statement M

@@ -19,9 +19,7 @@ refuse-requires : tie.Need-refuse-requires
 refuse-requires c κs = search needs
 
 returns : tie.Need-returns
-returns c m lent =
-    let s = c .before .before .before .args in
-    rw (c .refuse .ensures) (begun-2 (s .base) (s .named) (s .h) m (c .before .if1 .taken))
+returns c m lent = let s = c .before .before .before .args in rw (c .refuse .ensures) (begun-2 (s .base) (s .named) (s .h) m (c .before .if1 .taken))
 
 bad-opening-requires : tie.Need-bad-opening-requires
 bad-opening-requires c κs = search needs
@@ -40,7 +38,7 @@ new-requires : tie.Need-new-requires
 new-requires c κs = sym (c .before .bad-opening .ensures) ∙ c .if2 .left
 
 fair-size-requires : tie.Need-fair-size-requires
-fair-size-requires c κs = opened-rises _ _ _ (c .before .before .new .ensures) .1
+fair-size-requires c κs = let after-new = c .before .before in opened-rises _ _ _ (after-new .new .ensures) .1
 
 nothing-requires : tie.Need-nothing-requires
 nothing-requires c κs = search needs

@@ -3,7 +3,7 @@ use mathlib.Core.Path.{sym}
 use borrow.Author.Needs.{needs}
 use Rattle.rules.specs.Calls.{opening}
 use Rattle.rules.specs.Outcome.{After, after}
-use Rattle.rules.specs.Inner.{Decides}
+use Rattle.rules.specs.Inner.{Fulfils}
 use Rattle.rules.proofs.Written.{is-written}
 use Rattle.open.proofs.open.Statement.{statement}
 use Rattle.open.proofs.open.Tie as tie
@@ -16,7 +16,7 @@ start c = c .before .before .before .before
 abbrev begun : tie.After-decide → After
 begun c = after (opening (start c .args .base) (start c .args .named)) (start c .args .h) (start c .args .arena .now)
 
-decided : (c : tie.After-decide) → Decides (begun c) (start c .args .arena .now) (c .decide .result)
+decided : (c : tie.After-decide) → Fulfils (begun c) (start c .args .arena .now) (c .decide .result)
 decided c = c .decide .ensures (start c .args .arena .now) (sym (c .before .arena-len .ensures .0))
 
 -- ---- the needs
@@ -36,7 +36,8 @@ same-length c = search needs
 returns : tie.Need-returns
 returns c =
     let w = c .before .before in
-    is-written (decided (w .before .before)) (w .write .ensures)
+    let after-decide = w .before .before in
+    is-written (decided after-decide) (w .write .ensures)
 
 pub open-spec : {M : Type 1} → statement M
 open-spec = tie.close (tie.spec arena-len-requires decide-requires write-requires same-length returns)

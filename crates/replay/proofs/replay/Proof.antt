@@ -12,49 +12,20 @@ Inv-loop text arena₀ reply₀ t₀ from₀ arena reply t from = (t .at ≤ t .
 abbrev μ-loop : tie.MeasureT-loop
 μ-loop text arena₀ reply₀ t₀ from₀ arena reply t from = length text + 1 - from
 
-loop-holds : tie.Need-loop-holds Inv-loop μ-loop
-loop-holds c = search needs
-
-line-end-requires : tie.Need-line-end-requires Inv-loop μ-loop
-line-end-requires c κs = search needs
-
-sub-heard : tie.Need-sub-heard Inv-loop μ-loop
-sub-heard c = search needs
-
-part-heard-start : tie.Need-part-heard-start Inv-loop μ-loop
-part-heard-start c = search needs
-
-part-heard-end : tie.Need-part-heard-end Inv-loop μ-loop
-part-heard-end c = search needs
-
-heard-requires : tie.Need-heard-requires Inv-loop μ-loop
-heard-requires c κs = search needs
-
-add-from : tie.Need-add-from Inv-loop μ-loop
-add-from c = search needs
-
-loop-less : tie.Need-loop-less Inv-loop μ-loop
-loop-less c = search needs
-
-loop-again : tie.Need-loop-again Inv-loop μ-loop
-loop-again c = search needs
-
-returns : tie.Need-returns Inv-loop μ-loop
-returns c = search needs
-
+-- the search closes every need
 pub replay-spec : {M : Type 1} → statement M
 replay-spec =
     tie.close
     (tie.spec
     Inv-loop
     μ-loop
-    loop-holds
-    line-end-requires
-    sub-heard
-    part-heard-start
-    part-heard-end
-    heard-requires
-    add-from
-    loop-less
-    loop-again
-    returns)
+    (λ c. search needs)
+    (λ c κs. search needs)
+    (λ c. search needs)
+    (λ c. search needs)
+    (λ c. search needs)
+    (λ c κs. search needs)
+    (λ c. search needs)
+    (λ c. search needs)
+    (λ c. search needs)
+    (λ c. search needs))

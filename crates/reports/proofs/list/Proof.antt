@@ -15,7 +15,9 @@ abbrev start : tie.After-check → tie.Start
 start c = c .before .before .before .before .before
 
 passed : (c : tie.At-match-keys2) → Tested (start (c .before) .args .h) (start (c .before) .args .arena .now)
-passed c = tested _ _ (c .before .before .arena-len .ensures .0) (c .before .check .ensures) (c .match .keys2)
+passed c =
+    let after-arena-len = c .before .before in
+    tested _ _ (after-arena-len .arena-len .ensures .0) (c .before .check .ensures) (c .match .keys2)
 
 abbrev tests : tie.After-survey → tie.At-match-keys2
 tests c = c .before .before
@@ -77,7 +79,8 @@ fill-requires c κs =
 
 fair-size-requires : tie.Need-fair-size-requires
 fair-size-requires c κs =
-    let f = passed (tests (gathered (c .before .before .before .before .before .before .before .before))) .lent .fair in
+    let after-found = c .before .before .before .before .before .before .before .before in
+    let f = passed (tests (gathered after-found)) .lent .fair in
     omega arith
 
 sub-t16 : tie.Need-sub-t16

@@ -15,7 +15,9 @@ abbrev start : tie.After-check → tie.Start
 start c = c .before .before .before
 
 passed : (c : tie.At-match-keys2) → Tested (start (c .before) .args .h) (start (c .before) .args .arena .now)
-passed c = tested _ _ (c .before .before .arena-len .ensures .0) (c .before .check .ensures) (c .match .keys2)
+passed c =
+    let after-arena-len = c .before .before in
+    tested _ _ (after-arena-len .arena-len .ensures .0) (c .before .check .ensures) (c .match .keys2)
 
 -- ---- the needs
 

@@ -60,7 +60,7 @@ enum-told-2 : tie.Need-enum-told-2
 enum-told-2 c = search needs
 
 bad-layout-requires : tie.Need-bad-layout-requires
-bad-layout-requires c κs = ruled (c .before .before .before) .lent
+bad-layout-requires c κs = let after-enum-told = c .before .before .before in ruled after-enum-told .lent
 
 returns-2 : tie.Need-returns-2
 unfolding byNumbers byLayout

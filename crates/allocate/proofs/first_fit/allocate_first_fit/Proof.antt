@@ -7,7 +7,7 @@ use Prim.Native.Nat.{_≤_}
 use Rattle.rules.specs.Fixed.{minSize}
 use Rattle.rules.specs.Holes.{end}
 use Rattle.rules.specs.Sound.{soundHoles, holes}
-use Rattle.rules.proofs.Written.{decides-sound, decides-broken}
+use Rattle.rules.proofs.Written.{fulfils-sound, fulfils-broken}
 use Rattle.walk.specs.Walk.{searchOf}
 use Rattle.walk.specs.declared.Fit.{Fit}
 use Rattle.walk.specs.declared.Search.the-variants as search
@@ -27,7 +27,7 @@ fit c = c .found .given .0 .0
 at : (c : tie.After-found)
     → searchOf (start c .args .h) (start c .args .want) (start c .args .align) (holes (start c .args .h) (start c .args .arena .now))
     ≡ search.At (fit c)
-at c = sym (c .before .before .first-fit .ensures) ∙ c .found .given .1
+at c = let after-first-fit = c .before .before in sym (after-first-fit .first-fit .ensures) ∙ c .found .given .1
 
 hole-inside : (c : tie.After-found) → (minSize ≤ fit c .hole .size) × (end (fit c .hole) .0 ≤ start c .args .h .top .0)
 hole-inside c =
@@ -41,9 +41,10 @@ Sound c = soundHoles (start c .args .h) (holes (start c .args .h) (start c .args
 
 decided : (c : tie.After-adds-up) → Sound (found c) ≡ c .adds-up .result
 decided c =
+    let after-behind = c .before .before in
     let g = found c in
     goes-on (start g .args .h) (start g .args .arena .now) (start g .args .want) (start g .args .align) (start g .pre .0 .lent .fair) (at g)
-    (rw (c .before .before .behind .ensures) at (c .before .walk .ensures))
+    (rw (after-behind .behind .ensures) at (c .before .walk .ensures))
     ∙ sym (c .adds-up .ensures)
 
 -- ---- the needs
@@ -90,7 +91,7 @@ returns-2 : tie.Need-returns-2
 returns-2 c =
     let w = c .before .before in
     let s = start (found w) in
-    decides-sound (s .args .h) (s .args .arena .now) (holes (s .args .h) (s .args .arena .now))
+    fulfils-sound (s .args .h) (s .args .arena .now) (holes (s .args .h) (s .args .arena .now))
     (takes (s .args .want) (s .args .align) (s .args .h) (s .args .arena .now)) (decided w ∙ c .before .if1 .taken)
     (c .split-current .ensures)
 
@@ -102,7 +103,7 @@ returns-3 c =
     let w = c .before .before in
     let s = start (found w) in
     rw (c .refuse .ensures)
-    (decides-broken (s .args .h) (s .args .arena .now) (holes (s .args .h) (s .args .arena .now))
+    (fulfils-broken (s .args .h) (s .args .arena .now) (holes (s .args .h) (s .args .arena .now))
     (takes (s .args .want) (s .args .align) (s .args .h) (s .args .arena .now)) (decided w ∙ c .before .if1 .left))
 
 pub allocate-first-fit-spec : {M : Type 1} → statement M

@@ -13,9 +13,7 @@ refuse-requires : tie.Need-refuse-requires
 refuse-requires c κs = search needs
 
 returns : tie.Need-returns
-returns c =
-    let s = c .before .before in
-    rw (not-full (s .args .h) (s .args .found) (c .before .match .keys2)) (c .refuse .ensures)
+returns c = let s = c .before .before in rw (not-full (s .args .h) (s .args .found) (c .before .match .keys2)) (c .refuse .ensures)
 
 is-all-free-requires : tie.Need-is-all-free-requires
 is-all-free-requires c κs = search needs
@@ -27,7 +25,8 @@ returns-2 : tie.Need-returns-2
 unfolding noFit
 returns-2 c =
     let s = c .before .before in
-    rw (s .before .before .found .given .1, sym (s .is-all-free .ensures) ∙ c .before .if1 .taken) (c .refuse2 .ensures)
+    let after-found = s .before .before in
+    rw (after-found .found .given .1, sym (s .is-all-free .ensures) ∙ c .before .if1 .taken) (c .refuse2 .ensures)
 
 refuse-requires-3 : tie.Need-refuse-requires-3
 refuse-requires-3 c κs = search needs
@@ -36,7 +35,8 @@ returns-3 : tie.Need-returns-3
 unfolding noFit
 returns-3 c =
     let s = c .before .before in
-    rw (s .before .before .found .given .1, sym (s .is-all-free .ensures) ∙ c .before .if1 .left) (c .refuse3 .ensures)
+    let after-found = s .before .before in
+    rw (after-found .found .given .1, sym (s .is-all-free .ensures) ∙ c .before .if1 .left) (c .refuse3 .ensures)
 
 pub no-fit-spec : {M : Type 1} → statement M
 no-fit-spec =

@@ -31,7 +31,7 @@ candidate-requires c κs =
     (s .pre .1 .power, omega (arith, s .pre .1 .room), omega arith)
 
 add-t21 : tie.Need-add-t21
-add-t21 c = let r = bounds (start (c .before .before)) in omega arith
+add-t21 c = let after-candidate = c .before .before in let r = bounds (start after-candidate) in omega arith
 
 add-t21-2 : tie.Need-add-t21-2
 add-t21-2 c =
@@ -55,12 +55,13 @@ remains-requires-2 c κs =
     rw (a .candidate .ensures) (r .low, r .start)
 
 relink-requires : tie.Need-relink-requires
-relink-requires c κs = bounds (start (rear (c .before .before .before .before .before))) .before
+relink-requires c κs = let after-remains = c .before .before .before .before .before in bounds (start (rear after-remains)) .before
 
 add-t21-3 : tie.Need-add-t21-3
 add-t21-3 c =
     let l = c .before .before .before in
-    let r = bounds (start (rear (l .before .before .before .before .before .before))) in
+    let after-remains = l .before .before .before .before .before .before in
+    let r = bounds (start (rear after-remains)) in
     omega arith
 
 returns : tie.Need-returns

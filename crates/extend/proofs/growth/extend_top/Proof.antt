@@ -7,7 +7,7 @@ use borrow.Author.Needs.{needs}
 use borrow.Author.Tests.{not-true, not-false}
 use Rattle.rules.specs.Sound.{soundHoles, holes}
 use Rattle.rules.specs.Inner.{extending}
-use Rattle.rules.proofs.Written.{decides-broken}
+use Rattle.rules.proofs.Written.{fulfils-broken}
 use Rattle.walk.specs.declared.Near.{Near}
 use Rattle.joining.proofs.Neighbours.{near-broken, Sought, seeks}
 use Rattle.extend.proofs.Extending.{top-sound, top-free, Fits, past-is, gathers-is, grows-is}
@@ -25,7 +25,8 @@ near c = c .before .before .spot .given .0 .0
 sought : (c : tie.After-is-all-free) → Sought (start c .args .h) (start c .args .arena .now) (start c .args .h .top) (near c)
 sought c =
     let p = c .before .before in
-    seeks (start c .pre .lent .fair) (p .before .before .neighbours .ensures) (p .spot .given .1)
+    let after-neighbours = p .before .before in
+    seeks (start c .pre .lent .fair) (after-neighbours .neighbours .ensures) (p .spot .given .1)
 
 abbrev Sound : tie.After-is-all-free → Bool
 Sound c = soundHoles (start c .args .h) (holes (start c .args .h) (start c .args .arena .now))
@@ -70,7 +71,7 @@ returns c =
     let h = s .args .h in
     let m = s .args .arena .now in
     rw (c .refuse .ensures)
-    (decides-broken h m (holes h m) (extending (s .args .by) h (holes h m))
+    (fulfils-broken h m (holes h m) (extending (s .args .by) h (holes h m))
     (near-broken h m (h .top) (s .pre .lent .fair) (n .neighbours .ensures) (t .enum-told .given .1)))
 
 is-all-free-requires : tie.Need-is-all-free-requires
@@ -86,7 +87,7 @@ returns-2 c =
     let h = s .args .h in
     let m = s .args .arena .now in
     rw (c .refuse2 .ensures)
-    (decides-broken h m (holes h m) (extending (s .args .by) h (holes h m)) (decided t ∙ not-true _ (c .before .if1 .taken)))
+    (fulfils-broken h m (holes h m) (extending (s .args .by) h (holes h m)) (decided t ∙ not-true _ (c .before .if1 .taken)))
 
 add-room : tie.Need-add-room
 add-room c = search needs
@@ -95,7 +96,7 @@ sub-room : tie.Need-sub-room
 sub-room c = search needs
 
 sub-room-2 : tie.Need-sub-room-2
-sub-room-2 c = let f = start (c .before .before .before .before) .pre .lent .fair in omega arith
+sub-room-2 c = let after-is-all-free = c .before .before .before .before in let f = start after-is-all-free .pre .lent .fair in omega arith
 
 refuse-requires-3 : tie.Need-refuse-requires-3
 refuse-requires-3 c κs = search needs
@@ -115,7 +116,7 @@ add-sum c =
     omega arith
 
 gather-requires : tie.Need-gather-requires
-gather-requires c κs = begun (c .before .before) .pre .lent .fair
+gather-requires c κs = let else2 = c .before .before in begun else2 .pre .lent .fair
 
 returns-4 : tie.Need-returns-4
 returns-4 c =

@@ -13,7 +13,7 @@ nothing-requires-2 : tie.Need-nothing-requires-2
 nothing-requires-2 c κs = search needs
 
 returns : tie.Need-returns
-returns c = rw (c .nothing2 .ensures, c .before .nothing .ensures, c .before .before .fair-size .ensures)
+returns c = let after-fair-size = c .before .before in rw (c .nothing2 .ensures, c .before .nothing .ensures, after-fair-size .fair-size .ensures)
 
 pub gather-spec : {M : Type 1} → statement M
 gather-spec = tie.close (tie.spec fair-size-requires nothing-requires nothing-requires-2 returns)

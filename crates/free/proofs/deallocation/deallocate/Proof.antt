@@ -5,7 +5,7 @@ use borrow.Author.Needs.{needs}
 use borrow.Author.Tests.{not-true, not-false}
 use Rattle.rules.specs.Holes.{hole}
 use Rattle.rules.specs.Sound.{soundHoles, holes}
-use Rattle.rules.proofs.Written.{decides-broken}
+use Rattle.rules.proofs.Written.{fulfils-broken}
 use Rattle.walk.specs.declared.Near.{Near}
 use Rattle.free.specs.SpanTests.{mayFree, frees}
 use Rattle.joining.proofs.Neighbours.{near-broken, Sought, seeks, starts, goes-on}
@@ -24,7 +24,8 @@ near c = c .before .before .before .before .spot .given .0 .0
 sought : (c : tie.After-floor) → Sought (start c .args .h) (start c .args .arena .now) (start c .args .addr) (near c)
 sought c =
     let p = c .before .before .before .before in
-    seeks (start c .pre .0 .lent .fair) (p .before .before .neighbours .ensures) (p .spot .given .1)
+    let after-neighbours = p .before .before in
+    seeks (start c .pre .0 .lent .fair) (after-neighbours .neighbours .ensures) (p .spot .given .1)
 
 abbrev found : tie.After-adds-up → tie.After-floor
 found c = c .before .before
@@ -70,7 +71,7 @@ returns c =
     let m = s .args .arena .now in
     let a = s .args .addr in
     let broken = near-broken h m a (s .pre .0 .lent .fair) (t .neighbours .ensures) (c .before .enum-told .given .1) in
-    rw (c .refuse .ensures) (decides-broken h m (holes h m) (frees (s .args .size) a (s .args .align) h m) broken)
+    rw (c .refuse .ensures) (fulfils-broken h m (holes h m) (frees (s .args .size) a (s .args .align) h m) broken)
 
 walk-requires : tie.Need-walk-requires
 walk-requires c κs = let w = starts (sought c) in (start c .pre .0 .lent, w .0, w .1)
@@ -88,13 +89,11 @@ returns-2 c =
     let h = s .args .h in
     let m = s .args .arena .now in
     rw (c .refuse2 .ensures)
-    (decides-broken h m (holes h m) (frees (s .args .size) (s .args .addr) (s .args .align) h m)
+    (fulfils-broken h m (holes h m) (frees (s .args .size) (s .args .addr) (s .args .align) h m)
     (decided t ∙ not-true _ (c .before .if1 .taken)))
 
 may-free-requires : tie.Need-may-free-requires
-may-free-requires c κs =
-    let s = begun c in
-    (s .pre .0 .lent .fair, s .pre .1 .power, span-around (known c) (s .args .size))
+may-free-requires c κs = let s = begun c in (s .pre .0 .lent .fair, s .pre .1 .power, span-around (known c) (s .args .size))
 
 refuse-requires-3 : tie.Need-refuse-requires-3
 refuse-requires-3 c κs = search needs

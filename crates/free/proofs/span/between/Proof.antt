@@ -28,7 +28,7 @@ looked c = c .before .before .before
 -- ---- the needs
 
 sub-t11 : tie.Need-sub-t11
-sub-t11 c = c .before .before .before .before .before .pre .1 .floor (c .before .if1 .taken)
+sub-t11 c = let entry = c .before .before .before .before .before in entry .pre .1 .floor (c .before .if1 .taken)
 
 keeps-gap-requires : tie.Need-keeps-gap-requires
 keeps-gap-requires c κs = search needs

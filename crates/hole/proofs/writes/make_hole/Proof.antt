@@ -15,7 +15,10 @@ same-length c = search needs
 
 returns : tie.Need-returns
 unfolding putHead
-returns c = rw (c .before .before .put-word2 .ensures, c .before .before .before .before .before .before .put-word .ensures)
+returns c =
+    let after-put-word2 = c .before .before in
+    let after-put-word = after-put-word2 .before .before .before .before in
+    rw (after-put-word2 .put-word2 .ensures, after-put-word .put-word .ensures)
 
 pub make-hole-spec : {M : Type 1} → statement M
 make-hole-spec = tie.close (tie.spec put-word-requires put-word-requires-2 same-length returns)

@@ -11,7 +11,10 @@ unfolding Inner.put
 returns c = let e = eq-eqb _ _ (c .if1 .taken) in rw e
 
 put-head-requires : tie.Need-put-head-requires
-put-head-requires c κs = let s = c .before .before in s .before .before .before .before .pre (s .if1 .left)
+put-head-requires c κs =
+    let s = c .before .before in
+    let start = s .before .before .before .before in
+    start .pre (s .if1 .left)
 
 same-length : tie.Need-same-length
 same-length c = search needs
@@ -20,7 +23,8 @@ returns-2 : tie.Need-returns-2
 unfolding Inner.put
 returns-2 c =
     let w = c .before .before in
-    let e = ne-eqb _ _ (w .before .before .before .if1 .left) in
+    let else1 = w .before .before .before in
+    let e = ne-eqb _ _ (else1 .if1 .left) in
     w .put-head .ensures ∙ rw e
 
 pub put-spec : {M : Type 1} → statement M

@@ -27,9 +27,10 @@ same-length c = search needs
 
 returns : tie.Need-returns
 returns c =
+    let after-make-hole = c .before .before in
     let s = c .before .before .before .before .before .before .args in
     let sixteen : s .at .0 + 16 - s .at .0 ≡ 16 = omega arith in
-    rw (c .before .before .make-hole .ensures, sixteen) (head-part (s .arena .now) (s .at) (s .head))
+    rw (after-make-hole .make-hole .ensures, sixteen) (head-part (s .arena .now) (s .at) (s .head))
 
 pub put-head-spec : {M : Type 1} → statement M
 put-head-spec =

@@ -145,7 +145,8 @@ returns-7 : tie.Need-returns-7
 unfolding reply
 returns-7 c =
     let f = c .before .before in
-    rw (comes-to (f .before .before) (f .enum-told3 .given .1))
+    let after-read-frame = f .before .before in
+    rw (comes-to after-read-frame (f .enum-told3 .given .1))
     (refl, rw (c .put-line .ensures) (line-front 0xff 0 0 _), refl, search needs)
 
 pub answer-line-spec : {M : Type 1} → statement M

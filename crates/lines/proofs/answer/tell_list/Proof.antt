@@ -68,14 +68,15 @@ slice-aggregate-put-holes-2 c = search needs
 
 put-holes-requires : tie.Need-put-holes-requires
 put-holes-requires c κs =
-    let f = few (c .before .before .before .before .before) in
+    let after-answer-numbers = c .before .before .before .before .before in
+    let f = few after-answer-numbers in
     (omega arith, omega arith, omega arith)
 
 add-t24 : tie.Need-add-t24
-add-t24 c = omega (arith, few (c .before .before .before .before .before .before))
+add-t24 c = let after-answer-numbers = c .before .before .before .before .before .before in omega (arith, few after-answer-numbers)
 
 mul-t25 : tie.Need-mul-t25
-mul-t25 c = omega (arith, few (c .before .before .before .before .before .before))
+mul-t25 c = let after-answer-numbers = c .before .before .before .before .before .before in omega (arith, few after-answer-numbers)
 
 returns : tie.Need-returns
 returns c =

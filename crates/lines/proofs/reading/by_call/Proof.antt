@@ -10,10 +10,10 @@ count-of-requires : tie.Need-count-of-requires
 count-of-requires c κs = search needs
 
 mul-if1 : tie.Need-mul-if1
-mul-if1 c = omega (arith, c .count-of .ensures, count-most (c .before .before .args .call))
+mul-if1 c = let start = c .before .before in omega (arith, c .count-of .ensures, count-most (start .args .call))
 
 add-if1 : tie.Need-add-if1
-add-if1 c = omega (arith, c .count-of .ensures, count-most (c .before .before .args .call))
+add-if1 c = let start = c .before .before in omega (arith, c .count-of .ensures, count-most (start .args .call))
 
 made-requires : tie.Need-made-requires
 made-requires c κs = search needs

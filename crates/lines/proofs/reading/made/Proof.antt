@@ -16,19 +16,28 @@ number-of-requires-3 c κs = search needs
 
 returns : tie.Need-returns
 unfolding formOf
-returns c = rw (c .match .keys1, c .before .before .before .number-of .ensures, c .before .before .number-of2 .ensures)
+returns c =
+    let after-number-of2 = c .before .before in
+    let after-number-of = after-number-of2 .before in
+    rw (c .match .keys1, after-number-of .number-of .ensures, after-number-of2 .number-of2 .ensures)
 
 returns-2 : tie.Need-returns-2
 unfolding formOf
-returns-2 c = rw (c .match .keys2, c .before .before .before .number-of .ensures, c .before .before .number-of2 .ensures)
+returns-2 c =
+    let after-number-of2 = c .before .before in
+    let after-number-of = after-number-of2 .before in
+    rw (c .match .keys2, after-number-of .number-of .ensures, after-number-of2 .number-of2 .ensures)
 
 returns-3 : tie.Need-returns-3
 unfolding formOf
-returns-3 c = rw (c .match .keys3, c .before .before .before .number-of .ensures, c .before .before .number-of2 .ensures, c .before .number-of3 .ensures)
+returns-3 c =
+    let after-number-of2 = c .before .before in
+    let after-number-of = after-number-of2 .before in
+    rw (c .match .keys3, after-number-of .number-of .ensures, after-number-of2 .number-of2 .ensures, c .before .number-of3 .ensures)
 
 returns-4 : tie.Need-returns-4
 unfolding formOf
-returns-4 c = rw (c .match .keys4, c .before .before .before .number-of .ensures)
+returns-4 c = let after-number-of = c .before .before .before in rw (c .match .keys4, after-number-of .number-of .ensures)
 
 returns-5 : tie.Need-returns-5
 unfolding formOf
@@ -39,9 +48,7 @@ unfolding formOf
 returns-6 c = rw (c .match .keys6)
 
 returns-7 : tie.Need-returns-7
-returns-7 c =
-    let call = c .before .before .before .before .before .args .call in
-    rw (no-form forms call (search needs))
+returns-7 c = let call = c .before .before .before .before .before .args .call in rw (no-form forms call (search needs))
 
 pub made-spec : {M : Type 1} → statement M
 made-spec = tie.close (tie.spec number-of-requires number-of-requires-2 number-of-requires-3 returns returns-2 returns-3 returns-4 returns-5 returns-6 returns-7)

@@ -15,7 +15,7 @@ all-read : (c : tie.Then2) → digits (start c .args .line .now) ≡ true
 all-read c = sym (c .before .all-digits .ensures) ∙ c .if2 .taken
 
 returns : tie.Need-returns
-returns c = sym (line-longer (c .before .before .args .line .now) (omega arith))
+returns c = let entry = c .before .before in sym (line-longer (entry .args .line .now) (omega arith))
 
 all-digits-requires : tie.Need-all-digits-requires
 all-digits-requires c κs = search needs
@@ -32,7 +32,9 @@ returns-2 c =
     rw (line-digits (start tested .args .line .now) (all-read tested), ← c .before .number .ensures) (c .by-call .ensures)
 
 returns-3 : tie.Need-returns-3
-returns-3 c = sym (line-other (c .before .before .before .before .args .line .now) (sym (c .before .all-digits .ensures) ∙ c .if2 .left))
+returns-3 c =
+    let entry = c .before .before .before .before in
+    sym (line-other (entry .args .line .now) (sym (c .before .all-digits .ensures) ∙ c .if2 .left))
 
 pub read-frame-spec : {M : Type 1} → statement M
 read-frame-spec =

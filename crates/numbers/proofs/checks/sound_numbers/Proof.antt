@@ -23,15 +23,16 @@ align-up-requires : tie.Need-align-up-requires
 align-up-requires c κs = (grain-power, search needs)
 
 returns-4 : tie.Need-returns-4
-returns-4 c = broken _ (λ f. c .if4 .taken (bottom-is _ f (c .before .before .before .align-up .ensures)))
+returns-4 c = let after-align-up = c .before .before .before in broken _ (λ f. c .if4 .taken (bottom-is _ f (after-align-up .align-up .ensures)))
 
 sound-top-requires : tie.Need-sound-top-requires
 sound-top-requires c κs =
+    let after-align-up = c .before .before .before in
     record {
       base = omega arith;
       small = omega arith;
       low = omega arith;
-      bottom = rw (c .if4 .left) (c .before .before .before .align-up .ensures);
+      bottom = rw (c .if4 .left) (after-align-up .align-up .ensures);
     }
 
 returns-5 : tie.Need-returns-5

@@ -29,7 +29,8 @@ returns-5 c = broken _ (λ f. omega arith)
 
 returns-6 : tie.Need-returns-6
 returns-6 c =
-    let n = above-near (c .before .before .before .before .before .before .before .before .before .before .pre .bottom) in
+    let start = c .before .before .before .before .before .before .before .before .before .before in
+    let n = above-near (start .pre .bottom) in
     decides _ (λ e. omega (arith, leb-true)) (λ f. omega (arith, le-leb))
 
 pub sound-top-spec : {M : Type 1} → statement M

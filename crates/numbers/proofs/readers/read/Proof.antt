@@ -35,7 +35,7 @@ returns c =
     says-own (heap k) _ (passed k) refl refl (sized .fair-size .ensures) refl (omega (arith, sized .fair-size .ensures))
 
 returns-2 : tie.Need-returns-2
-returns-2 c = says-none (c .before .before .args .h) (sym (c .before .readable .ensures) ∙ c .if1 .left)
+returns-2 c = let start = c .before .before in says-none (start .args .h) (sym (c .before .readable .ensures) ∙ c .if1 .left)
 
 pub read-spec : {M : Type 1} → statement M
 read-spec = tie.close (tie.spec readable-requires fair-size-requires add-t5 sub-t7 returns returns-2)

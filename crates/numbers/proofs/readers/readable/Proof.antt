@@ -12,13 +12,16 @@ sound-numbers-requires c κs = search needs
 
 fair-size-requires : tie.Need-fair-size-requires
 fair-size-requires c κs =
+    let start = c .before .before in
     let e = sym (c .before .sound-numbers .ensures) ∙ c .if1 .taken in
-    omega (arith, sound-fair (c .before .before .args .h) e)
+    omega (arith, sound-fair (start .args .h) e)
 
 returns : tie.Need-returns
 returns c =
+    let then1 = c .before .before in
+    let after-sound-numbers = then1 .before in
     rw (c .before .fair-size .ensures)
-    (used-decides _ (sym (c .before .before .before .sound-numbers .ensures) ∙ c .before .before .if1 .taken))
+    (used-decides _ (sym (after-sound-numbers .sound-numbers .ensures) ∙ then1 .if1 .taken))
 
 returns-2 : tie.Need-returns-2
 returns-2 c = unreadable-is _ (sym (c .before .sound-numbers .ensures) ∙ c .if1 .left)

@@ -32,10 +32,10 @@ enum-known-st : tie.Need-enum-known-st Inv-loop μ-loop
 enum-known-st c = search needs
 
 same-length : tie.Need-same-length Inv-loop μ-loop
-same-length c = addrs-length _ _ _ _ (c .before .before .before .loop .inv .0)
+same-length c = let at-loop = c .before .before .before in addrs-length _ _ _ _ (at-loop .loop .inv .0)
 
 same-length-2 : tie.Need-same-length-2 Inv-loop μ-loop
-same-length-2 c = sizes-length _ _ _ _ (c .before .before .before .loop .inv .0)
+same-length-2 c = let at-loop = c .before .before .before in sizes-length _ _ _ _ (at-loop .loop .inv .0)
 
 returns : tie.Need-returns Inv-loop μ-loop
 returns c =
@@ -64,8 +64,9 @@ slice-write-sizes c =
 
 behind-requires : tie.Need-behind-requires Inv-loop μ-loop
 behind-requires c κs =
+    let after-next = c .before .before .before in
     let r = c .before .before .before .before .before in
-    omega (arith, turn-bounds (r .loop .inv .0 .gone) (c .before .before .before .next .ensures) (c .before .st .given .1))
+    omega (arith, turn-bounds (r .loop .inv .0 .gone) (after-next .next .ensures) (c .before .st .given .1))
 
 add-i : tie.Need-add-i Inv-loop μ-loop
 add-i c = search needs
@@ -76,10 +77,11 @@ loop-less c = search needs
 loop-again : tie.Need-loop-again Inv-loop μ-loop
 loop-again c =
     let a = c .before in
+    let after-next = a .before .before .before in
     let r = a .before .before .before .before .before in
     let e = r .before .shorter .ensures in
     rw (c .behind .ensures)
-    (fills-on _ _ _ _ (r .loop .inv .0) (a .before .before .before .next .ensures) (omega arith) (a .before .st .given .1), search needs)
+    (fills-on _ _ _ _ (r .loop .inv .0) (after-next .next .ensures) (omega arith) (a .before .st .given .1), search needs)
 
 same-length-3 : tie.Need-same-length-3 Inv-loop μ-loop
 same-length-3 c = addrs-length _ _ _ _ (c .before .loop .inv .0)

@@ -14,7 +14,8 @@ is-all-free-requires c κs = search needs
 returns : tie.Need-returns
 unfolding endsSound
 returns c =
-    let e = sym (c .before .before .is-end .ensures) ∙ c .before .if1 .taken in
+    let after-is-end = c .before .before in
+    let e = sym (after-is-end .is-end .ensures) ∙ c .before .if1 .taken in
     c .is-all-free .ensures ∙ rw e
 
 returns-2 : tie.Need-returns-2

@@ -31,7 +31,7 @@ start c = turn c .before .before .before .before
 bounds : (c : tie.After-st Inv-loop μ-loop)
     → Bounds (all never (start c .args .h) (start c .args .arena .now))
     (turn c .loop .floor) (turn c .loop .inv .0) (c .st .given .0 .0)
-bounds c = turn-bounds (turn c .loop .inv .1 .gone) (c .before .before .next .ensures) (c .st .given .1)
+bounds c = let after-next = c .before .before in turn-bounds (turn c .loop .inv .1 .gone) (after-next .next .ensures) (c .st .given .1)
 
 first-floor-requires : tie.Need-first-floor-requires Inv-loop μ-loop
 first-floor-requires c κs = search needs
@@ -52,29 +52,31 @@ ends-sound-requires c κs = search needs
 
 returns : tie.Need-returns Inv-loop μ-loop
 returns c =
+    let at-match-keys2 = c .before .before in
     let t = c .before .before .before in
     let i = t .before .loop .inv in
-    surveyed (i .1) (t .next .ensures) (c .before .before .match .keys2) (sym (c .before .ends-sound .ensures) ∙ c .if1 .taken) (i .2)
+    surveyed (i .1) (t .next .ensures) (at-match-keys2 .match .keys2) (sym (c .before .ends-sound .ensures) ∙ c .if1 .taken) (i .2)
 
 returns-2 : tie.Need-returns-2 Inv-loop μ-loop
 returns-2 c =
+    let at-match-keys2 = c .before .before in
     let t = c .before .before .before in
-    survey-broken (t .before .loop .inv .1) (t .next .ensures) (c .before .before .match .keys2) (sym (c .before .ends-sound .ensures) ∙ c .if1 .left)
+    survey-broken (t .before .loop .inv .1) (t .next .ensures) (at-match-keys2 .match .keys2) (sym (c .before .ends-sound .ensures) ∙ c .if1 .left)
 
 add-total : tie.Need-add-total Inv-loop μ-loop
-add-total c = omega (arith, bounds (c .before .before))
+add-total c = let after-st = c .before .before in omega (arith, bounds after-st)
 
 add-count : tie.Need-add-count Inv-loop μ-loop
-add-count c = omega (arith, bounds (c .before .before))
+add-count c = let after-st = c .before .before in omega (arith, bounds after-st)
 
 larger-requires : tie.Need-larger-requires Inv-loop μ-loop
 larger-requires c κs = search needs
 
 behind-requires : tie.Need-behind-requires Inv-loop μ-loop
-behind-requires c κs = omega (arith, bounds (c .before .before .before))
+behind-requires c κs = let after-st = c .before .before .before in omega (arith, bounds after-st)
 
 loop-less : tie.Need-loop-less Inv-loop μ-loop
-loop-less c = let b = bounds (c .before .before .before .before) in rw (c .behind .ensures) (omega arith)
+loop-less c = let after-st = c .before .before .before .before in let b = bounds after-st in rw (c .behind .ensures) (omega arith)
 
 loop-again : tie.Need-loop-again Inv-loop μ-loop
 loop-again c =

@@ -13,7 +13,8 @@ place-of-requires c κs = search needs
 returns : tie.Need-returns
 unfolding startOf
 returns c =
-    let place = ap (λ (p : Place). p .0) (c .before .before .before .place-of .ensures) in
+    let after-place-of = c .before .before .before in
+    let place = ap (λ (p : Place). p .0) (after-place-of .place-of .ensures) in
     simp (eq-eqb _ _ (c .if1 .taken ∙ place))
 
 add-t5 : tie.Need-add-t5
@@ -22,7 +23,8 @@ add-t5 c = search needs
 returns-2 : tie.Need-returns-2
 unfolding startOf
 returns-2 c =
-    let place = ap (λ (p : Place). p .0) (c .before .before .before .before .place-of .ensures) in
+    let after-place-of = c .before .before .before .before in
+    let place = ap (λ (p : Place). p .0) (after-place-of .place-of .ensures) in
     simp (ne-eqb _ _ (λ e. c .before .if1 .left (e ∙ sym place)))
 
 pub first-floor-spec : {M : Type 1} → statement M

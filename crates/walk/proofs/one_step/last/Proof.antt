@@ -15,11 +15,11 @@ add-if2 c = search needs
 
 returns-2 : tie.Need-returns-2
 unfolding lastOf ends
-returns-2 c = simp (lt-leb _ _ (c .before .before .if1 .left), eq-eqb _ _ (c .if2 .taken))
+returns-2 c = let else1 = c .before .before in simp (lt-leb _ _ (else1 .if1 .left), eq-eqb _ _ (c .if2 .taken))
 
 returns-3 : tie.Need-returns-3
 unfolding lastOf ends
-returns-3 c = simp (lt-leb _ _ (c .before .before .if1 .left), ne-eqb _ _ (c .if2 .left))
+returns-3 c = let else1 = c .before .before in simp (lt-leb _ _ (else1 .if1 .left), ne-eqb _ _ (c .if2 .left))
 
 pub last-spec : {M : Type 1} → statement M
 last-spec = tie.close (tie.spec returns add-if2 returns-2 returns-3)

@@ -20,7 +20,7 @@ is-all-free-requires c κs = search needs
 
 returns-2 : tie.Need-returns-2
 unfolding addsUp
-returns-2 c = c .is-all-free .ensures ∙ rw (c .before .before .walked .given .1)
+returns-2 c = let after-walked = c .before .before in c .is-all-free .ensures ∙ rw (after-walked .walked .given .1)
 
 pub adds-up-spec : {M : Type 1} → statement M
 adds-up-spec = tie.close (tie.spec enum-known-walked enum-told returns is-all-free-requires returns-2)

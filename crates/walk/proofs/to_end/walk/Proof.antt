@@ -25,7 +25,7 @@ start c = turn c .before .before
 bounds : (c : tie.After-st Inv-loop μ-loop)
     → Bounds (onward (start c .args .h) (start c .args .arena .now) (start c .args .from) (start c .args .low))
     (turn c .loop .floor) (turn c .loop .inv .front) (c .st .given .0 .0)
-bounds c = turn-bounds (turn c .loop .inv .gone) (c .before .before .next .ensures) (c .st .given .1)
+bounds c = let after-next = c .before .before in turn-bounds (turn c .loop .inv .gone) (after-next .next .ensures) (c .st .given .1)
 
 loop-holds : tie.Need-loop-holds Inv-loop μ-loop
 loop-holds c = let s = c .before .pre in sums _ _ _ _ _ (s .0 .fair) (s .2)
@@ -45,18 +45,20 @@ returns c = λ n en.
     walk-ended (t .before .loop .inv) (t .next .ensures) n en (sym (c .before .is-end .ensures) ∙ c .if1 .taken)
 
 returns-2 : tie.Need-returns-2 Inv-loop μ-loop
-returns-2 c = λ n en.
+returns-2 c =
+    let at-match-keys2 = c .before .before in
+    λ n en.
     let t = c .before .before .before in
-    walk-broken (t .before .loop .inv) (t .next .ensures) n en (c .before .before .match .keys2) (sym (c .before .is-end .ensures) ∙ c .if1 .left)
+    walk-broken (t .before .loop .inv) (t .next .ensures) n en (at-match-keys2 .match .keys2) (sym (c .before .is-end .ensures) ∙ c .if1 .left)
 
 add-total : tie.Need-add-total Inv-loop μ-loop
-add-total c = omega (arith, bounds (c .before .before))
+add-total c = let after-st = c .before .before in omega (arith, bounds after-st)
 
 behind-requires : tie.Need-behind-requires Inv-loop μ-loop
-behind-requires c κs = omega (arith, bounds (c .before .before))
+behind-requires c κs = let after-st = c .before .before in omega (arith, bounds after-st)
 
 loop-less : tie.Need-loop-less Inv-loop μ-loop
-loop-less c = let b = bounds (c .before .before .before) in rw (c .behind .ensures) (omega arith)
+loop-less c = let after-st = c .before .before .before in let b = bounds after-st in rw (c .behind .ensures) (omega arith)
 
 loop-again : tie.Need-loop-again Inv-loop μ-loop
 loop-again c =

@@ -28,7 +28,7 @@ start c = turn c .before .before .before .before
 bounds : (c : tie.After-st Inv-loop μ-loop)
     → Bounds (all (suits (start c .args .want) (start c .args .align)) (start c .args .h) (start c .args .arena .now))
     (turn c .loop .floor) (turn c .loop .inv .front) (c .st .given .0 .0)
-bounds c = turn-bounds (turn c .loop .inv .counting .gone) (c .before .before .next .ensures) (c .st .given .1)
+bounds c = let after-next = c .before .before in turn-bounds (turn c .loop .inv .counting .gone) (after-next .next .ensures) (c .st .given .1)
 
 first-floor-requires : tie.Need-first-floor-requires Inv-loop μ-loop
 first-floor-requires c κs = search needs
@@ -55,34 +55,38 @@ returns c =
 
 returns-2 : tie.Need-returns-2 Inv-loop μ-loop
 returns-2 c =
+    let at-match-keys2 = c .before .before in
     let t = c .before .before .before in
     let l = t .before .before in
     search-broken _ _ (l .loop .inv) (t .next .ensures)
-    (c .before .before .match .keys2) (sym (c .before .is-end .ensures) ∙ c .if1 .left)
+    (at-match-keys2 .match .keys2) (sym (c .before .is-end .ensures) ∙ c .if1 .left)
 
 add-total : tie.Need-add-total Inv-loop μ-loop
-add-total c = omega (arith, bounds (c .before .before))
+add-total c = let after-st = c .before .before in omega (arith, bounds after-st)
 
 add-count : tie.Need-add-count Inv-loop μ-loop
-add-count c = omega (arith, bounds (c .before .before))
+add-count c = let after-st = c .before .before in omega (arith, bounds after-st)
 
 suits-requires : tie.Need-suits-requires Inv-loop μ-loop
 suits-requires c κs =
-    let b = bounds (c .before .before) in
+    let after-st = c .before .before in
+    let b = bounds after-st in
     (search needs, omega arith, b .least)
 
 behind-requires : tie.Need-behind-requires Inv-loop μ-loop
-behind-requires c κs = omega (arith, bounds (c .before .before .before .before))
+behind-requires c κs = let after-st = c .before .before .before .before in omega (arith, bounds after-st)
 
 loop-less : tie.Need-loop-less Inv-loop μ-loop
-loop-less c = let b = bounds (c .before .before .before .before .before) in rw (c .behind .ensures) (omega arith)
+loop-less c = let after-st = c .before .before .before .before .before in let b = bounds after-st in rw (c .behind .ensures) (omega arith)
 
 loop-again : tie.Need-loop-again Inv-loop μ-loop
 loop-again c =
+    let after-suits = c .before .before in
     let s = c .before .before .before .before .before in
     let t = s .before .before in
+    let at-loop = t .before .before in
     rw (c .behind .ensures)
-    (seeks-on _ _ _ (t .before .before .loop .inv) (t .next .ensures) (s .st .given .1) (sym (c .before .before .suits .ensures) ∙ c .before .if2 .left))
+    (seeks-on _ _ _ (at-loop .loop .inv) (t .next .ensures) (s .st .given .1) (sym (after-suits .suits .ensures) ∙ c .before .if2 .left))
 
 returns-3 : tie.Need-returns-3 Inv-loop μ-loop
 returns-3 c =

@@ -26,21 +26,24 @@ add-end c = search needs
 
 returns-2 : tie.Need-returns-2
 returns-2 c =
+    let after-candidate = c .before .before .before in
     let s = c .before .before .before .before .before .before in
-    past-unsuited (s .args .want) (s .pre .0 .power) (s .args .hole) (c .before .before .before .candidate .ensures) (c .if2 .taken)
+    past-unsuited (s .args .want) (s .pre .0 .power) (s .args .hole) (after-candidate .candidate .ensures) (c .if2 .taken)
 
 returns-3 : tie.Need-returns-3
 returns-3 c =
+    let after-candidate = c .before .before .before .before in
     let s = c .before .before .before .before .before .before .before in
-    filled-suits (s .args .want) (s .pre .0 .power) (s .args .hole) (c .before .before .before .before .candidate .ensures) (c .if3 .taken)
+    filled-suits (s .args .want) (s .pre .0 .power) (s .args .hole) (after-candidate .candidate .ensures) (c .if3 .taken)
 
 add-result : tie.Need-add-result
 add-result c = search needs
 
 returns-4 : tie.Need-returns-4
 returns-4 c =
+    let after-candidate = c .before .before .before .before in
     let s = c .before .before .before .before .before .before .before in
-    left-suits (s .args .want) (s .pre .0 .power) (s .args .hole) (c .before .before .before .before .candidate .ensures) (c .before .if2 .left) (c .if3 .left)
+    left-suits (s .args .want) (s .pre .0 .power) (s .args .hole) (after-candidate .candidate .ensures) (c .before .if2 .left) (c .if3 .left)
 
 pub suits-spec : {M : Type 1} → statement M
 suits-spec =

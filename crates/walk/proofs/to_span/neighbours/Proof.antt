@@ -30,7 +30,7 @@ start c = turn c .before .before .before .before
 bounds : (c : tie.After-st Inv-loop μ-loop)
     → Bounds (all (isBeyond (start c .args .addr)) (start c .args .h) (start c .args .arena .now))
     (turn c .loop .floor) (turn c .loop .inv .1 .front) (c .st .given .0 .0)
-bounds c = turn-bounds (turn c .loop .inv .1 .counting .gone) (c .before .before .next .ensures) (c .st .given .1)
+bounds c = let after-next = c .before .before in turn-bounds (turn c .loop .inv .1 .counting .gone) (after-next .next .ensures) (c .st .given .1)
 
 first-floor-requires : tie.Need-first-floor-requires Inv-loop μ-loop
 first-floor-requires c κs = search needs
@@ -51,27 +51,30 @@ is-end-requires c κs = search needs
 
 returns : tie.Need-returns Inv-loop μ-loop
 returns c =
+    let at-match-keys2 = c .before .before in
     let t = c .before .before .before in
     let l = t .before .before in
     let s = l .before .before .before .before in
     near-broken (s .args .addr) (l .loop .inv .1) (t .next .ensures)
-    (c .before .before .match .keys2) (sym (c .before .is-end .ensures) ∙ c .if1 .left)
+    (at-match-keys2 .match .keys2) (sym (c .before .is-end .ensures) ∙ c .if1 .left)
 
 add-total : tie.Need-add-total Inv-loop μ-loop
-add-total c = omega (arith, bounds (c .before .before .before .before .before))
+add-total c = let after-st = c .before .before .before .before .before in omega (arith, bounds after-st)
 
 behind-requires : tie.Need-behind-requires Inv-loop μ-loop
-behind-requires c κs = omega (arith, bounds (c .before .before .before .before .before))
+behind-requires c κs = let after-st = c .before .before .before .before .before in omega (arith, bounds after-st)
 
 loop-less : tie.Need-loop-less Inv-loop μ-loop
-loop-less c = let b = bounds (c .before .before .before .before .before .before) in rw (c .behind .ensures) (omega arith)
+loop-less c = let after-st = c .before .before .before .before .before .before in let b = bounds after-st in rw (c .behind .ensures) (omega arith)
 
 loop-again : tie.Need-loop-again Inv-loop μ-loop
 loop-again c =
+    let else2 = c .before .before in
     let s = c .before .before .before .before .before .before in
     let t = s .before .before in
+    let at-loop = t .before .before in
     rw (c .behind .ensures)
-    (_, seeks-on _ _ _ (t .before .before .loop .inv .1) (t .next .ensures) (s .st .given .1) (le-ltb _ _ (c .before .before .if2 .left)))
+    (_, seeks-on _ _ _ (at-loop .loop .inv .1) (t .next .ensures) (s .st .given .1) (le-ltb _ _ (else2 .if2 .left)))
 
 returns-2 : tie.Need-returns-2 Inv-loop μ-loop
 returns-2 c =
