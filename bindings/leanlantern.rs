@@ -7,7 +7,7 @@ mod c {
         pub fn lantern_allocate(heap: *mut u64, arena: *mut u8, len: usize, size: u64, align: u64, answer: *mut u64) -> u64;
         pub fn lantern_free(heap: *mut u64, arena: *mut u8, len: usize, addr: u64, size: u64, align: u64, answer: *mut u64) -> u64;
         pub fn lantern_extend(heap: *mut u64, arena: *mut u8, len: usize, by: u64, answer: *mut u64) -> u64;
-        pub fn lantern_room(heap: *const u64, arena: *const u8, len: usize, answer: *mut u64) -> u64;
+        pub fn lantern_room(heap: *const u64, arena: *const u8, len: usize, align: u64, answer: *mut u64) -> u64;
         pub fn lantern_list(
             heap: *const u64, arena: *const u8, len: usize, addrs: *mut u64, n_addrs: usize, sizes: *mut u64, n_sizes: usize, answer: *mut u64,
         ) -> u64;
@@ -77,10 +77,10 @@ impl<'a> Lantern<'a> {
         Self::told(n, answer)
     }
 
-    /// The largest hole and the number of holes.
-    pub fn room(&self) -> Answer {
+    /// The largest rounded size that `allocate` would grant at the alignment, 0 if none, and the number of holes.
+    pub fn room(&self, align: u64) -> Answer {
         let mut answer = [0; 2];
-        let n = unsafe { c::lantern_room(self.words.as_ptr(), self.arena.as_ptr(), self.arena.len(), answer.as_mut_ptr()) };
+        let n = unsafe { c::lantern_room(self.words.as_ptr(), self.arena.as_ptr(), self.arena.len(), align, answer.as_mut_ptr()) };
         Self::told(n, answer)
     }
 

@@ -47,7 +47,7 @@ fn auction(price: u8, noise: u8) -> Vec<Answer> {
     seal(&mut lantern, &mut held, &mut told, 120, 8);
     told.push(lantern.extend(100));
     seal(&mut lantern, &mut held, &mut told, 120, 8);
-    told.push(lantern.room());
+    told.push(lantern.room(16));
     for (addr, size) in &held {
         let at = (addr - BASE) as usize;
         assert!(lantern.arena[at..at + *size as usize].iter().all(|b| *b == price), "a sealed price was written over");

@@ -21,7 +21,7 @@ import time
 HERE = os.path.dirname(os.path.dirname(os.path.abspath(__file__)))
 WIRE = os.path.abspath(sys.argv[1]) if len(sys.argv) > 1 else os.path.join(HERE, "target/bin/wire")
 LIMIT = 60  # seconds that a case may take
-FRAME = re.compile(rb"0[12][0-9a-f]{32}|03[0-9a-f]{48}|04[0-9a-f]{16}|05|06")
+FRAME = re.compile(rb"0[12][0-9a-f]{32}|03[0-9a-f]{48}|0[46][0-9a-f]{16}|05")
 
 
 def line(number, *values):
@@ -106,6 +106,53 @@ FREE = line(3, 0x1000, 24, 8)
 STATE = OPEN + ALLOCATE
 STATED = OPENED + line(0, 0x1000, 1)
 LIST = line(0, 1, 0x10000 - 24) + line(0x20, 0x1018, 0x10000 - 24)
+ROOM = line(6, 1)
+
+# the room report: frames and their answers, on a heap of 152 bytes with blocks of 16, 48, 32, 40 and 16
+ROOMS = (
+    (line(6, 8), UNOPENED),
+    (line(6, 3), UNOPENED),
+    (line(1, 0x1000, 0x98), line(0, 0x1000, 0x98)),
+    (line(2, 16, 1), line(0, 0x1000, 1)),
+    (line(2, 48, 1), line(0, 0x1010, 1)),
+    (line(2, 32, 1), line(0, 0x1040, 1)),
+    (line(2, 40, 1), line(0, 0x1060, 1)),
+    (line(6, 1), line(0, 16, 1)),
+    (line(2, 16, 1), line(0, 0x1088, 1)),
+    # no hole
+    (line(6, 1), line(0, 0, 0)),
+    (line(6, 32), line(0, 0, 0)),
+    # one of 48 bytes, of which 32 lie behind a multiple of 32
+    (line(3, 0x1010, 48, 1), line(0, 48, 0x68)),
+    (line(6, 1), line(0, 48, 1)),
+    (line(6, 16), line(0, 48, 1)),
+    (line(6, 32), line(0, 32, 1)),
+    (line(2, 48, 32), line(7, 0, 1)),
+    # one of 40 bytes at a multiple of 32: the smaller lies better; at 64 nothing is left of the one and 8 bytes of the other
+    (line(3, 0x1060, 40, 1), line(0, 40, 0x40)),
+    (line(6, 1), line(0, 48, 2)),
+    (line(6, 2), line(0, 48, 2)),
+    (line(6, 32), line(0, 40, 2)),
+    (line(6, 64), line(0, 0, 2)),
+    (line(6, 1 << 62), line(0, 0, 2)),
+    # numbers that are no alignment, and a frame without one
+    (line(6, 0), line(6, 0, 0)),
+    (line(6, 3), line(6, 0, 0)),
+    (line(6, 1 << 63), line(6, 0, 0)),
+    (line(6, (1 << 64) - 1), line(6, 0, 0)),
+    (b"06\n", BAD),
+    # what was told is granted, at the hole that was meant
+    (line(2, 40, 32), line(0, 0x1060, 2)),
+    (line(6, 32), line(0, 32, 1)),
+    (line(2, 32, 32), line(0, 0x1020, 1)),
+    (line(6, 32), line(0, 0, 1)),
+    (line(6, 16), line(0, 16, 1)),
+    # one of 24 bytes at 0x1028: at 16 it would leave 8 in front
+    (line(3, 0x1020, 32, 32), line(0, 32, 0x68)),
+    (line(2, 24, 1), line(0, 0x1010, 1)),
+    (line(6, 16), line(0, 0, 1)),
+    (line(6, 8), line(0, 24, 1)),
+)
 
 LINES = {
     "no input": (b"", b""),
@@ -115,14 +162,16 @@ LINES = {
     "a last line without LF": (stored("stdin")[:-1], stored("stdout")),
     "one line without LF": (b"05", UNOPENED),
     "a last line without LF that is no frame": (b"05\n0", UNOPENED + BAD),
-    "CR LF": (b"05\r\n06\r\n\r\n", BAD * 3),
-    "CR alone": (b"05\r06", BAD),
+    "CR LF": (b"05\r\n" + ROOM[:-1] + b"\r\n\r\n", BAD * 3),
+    "CR alone": (b"05\r05", BAD),
     "spaces": (b" 05\n05 \n0 5\n05\t\n", BAD * 4),
     "uppercase": (STATE + FREE.replace(b"1000", b"100A").upper() + b"0A\n05\n", STATED + BAD * 2 + LIST),
     "odd digits": (b"0\n5\n050\n" + OPEN[:-2] + b"\n", BAD * 4),
-    "half frames": (b"".join(OPEN[:n] + b"\n" for n in range(34)), BAD * 34),
-    "a digit too many": (b"".join(f[:-1] + b"0\n" for f in (OPEN, ALLOCATE, FREE, line(4, 0), b"05\n", b"06\n")), BAD * 6),
-    "unknown calls": (b"".join(b"%02x\n" % n for n in range(256) if n not in (5, 6)), BAD * 254),
+    "half frames": (b"".join(f[:n] + b"\n" for f in (OPEN, ROOM) for n in range(len(f) - 1)), BAD * (34 + 18)),
+    "a digit too many": (b"".join(f[:-1] + b"0\n" for f in (OPEN, ALLOCATE, FREE, line(4, 0), b"05\n", ROOM)), BAD * 6),
+    "a number too many": (b"".join(f[:-1] + line(0, 8)[2:] for f in (OPEN, ALLOCATE, FREE, line(4, 0), b"05\n", ROOM)), BAD * 6),
+    "unknown calls": (b"".join(b"%02x\n" % n for n in range(256) if n != 5), BAD * 255),
+    "room at alignments": (b"".join(f for f, _ in ROOMS), b"".join(a for _, a in ROOMS)),
     "NUL": (b"\0\n05\0\n\0" + b"05\n" + b"0\0005\n", BAD * 4),
     "bytes above 127": (b"\xef\xbb\xbf05\n\xff\n", BAD * 2),
     "lines around the longest frame": (b"".join(FREE[:50] + b"0" * n + b"\n" for n in range(4)), UNOPENED + BAD * 3),
@@ -175,8 +224,8 @@ def most_holes():
 def longest():
     """The longest answer so often that it fills the room for answers many times over."""
     calls, answers, rows = most_holes()
-    for mixed in (b"05\n", b"06\n05\n", b"\n" * 2048 + b"05\n"):
-        before = b"".join(line(0, 16, 2048) if x == b"06" else BAD for x in mixed.split(b"\n")[:-2])
+    for mixed in (b"05\n", ROOM + b"05\n", b"\n" * 2048 + b"05\n"):
+        before = b"".join(line(0, 16, 2048) if x + b"\n" == ROOM else BAD for x in mixed.split(b"\n")[:-2])
         check(run(calls + mixed * 20), answers + (before + rows) * 20)
 
 
@@ -223,12 +272,12 @@ def line_by_line():
             check(heard(p.stdout, 35), said + b"\n")
         check(heard(p.stdout, 70), stored("stdout")[-70:])
         for _ in range(2000):
-            p.stdin.write(b"06\n")
+            p.stdin.write(ROOM)
             check(heard(p.stdout, 35), line(0, 0x20, 2))
-        p.stdin.write(b"06\n\n0")
+        p.stdin.write(ROOM + b"\n" + ROOM[:1])
         check(heard(p.stdout, 70), line(0, 0x20, 2) + BAD)
         check(heard(p.stdout, 1, 0.3), b"")
-        p.stdin.write(b"6")
+        p.stdin.write(ROOM[1:-1])
         p.stdin.close()
         check(heard(p.stdout, 1000), line(0, 0x20, 2))
         assert p.wait() == 0

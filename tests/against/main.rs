@@ -96,6 +96,7 @@ struct Counts {
     lists: u64,
     holes: u64,
     most: u64,
+    rooms: u64,
     bytes: u64,
     runs: u64,
 }
@@ -109,6 +110,25 @@ fn same<T: PartialEq + std::fmt::Debug>(what: &str, original: T, ours: T) {
     if original != ours {
         differ(what, original, ours)
     }
+}
+
+fn holes_of(heap: &Heap) -> Vec<(u64, u64)> {
+    let mut holes = Vec::new();
+    heap.read_list(&mut |a, s| holes.push((a as u64, s as u64)));
+    holes
+}
+
+/// The block that the original grants, if it does.
+fn asked(heap: &mut Heap, size: u64, align: u64) -> Option<(NonNull<u8>, Layout)> {
+    let layout = Layout::from_size_align(size as usize, align as usize).ok()?;
+    Some((heap.allocate_first_fit(layout).ok()?, layout))
+}
+
+/// Whether the original grants it. What it grants is given back at once.
+fn granted(heap: &mut Heap, size: u64, align: u64) -> bool {
+    let Some((p, layout)) = asked(heap, size, align) else { return false };
+    unsafe { heap.deallocate(p, layout) };
+    true
 }
 
 /// The original and ours, opened alike.
@@ -144,21 +164,43 @@ impl<'a> Pair<'a> {
     }
 
     fn original_holes(&self) -> Vec<(u64, u64)> {
-        let mut holes = Vec::new();
-        self.heap.read_list(&mut |a, s| holes.push((a as u64, s as u64)));
-        holes
+        holes_of(&self.heap)
     }
 
-    /// Lists, sums and readers of both.
-    fn compare(&mut self, counts: &mut Counts) {
+    /// Our room report at an alignment, tried on the original: it grants the size told, and neither of the next two. So it grants none
+    /// above: a hole with 8 or 16 bytes more would grant one of the two, and a hole with still more the next, with at least 16 behind it.
+    fn compare_room(&mut self, align: u64, holes: u64, counts: &mut Counts) {
+        counts.rooms += 1;
+        let answer = self.ours.room(align);
+        if Layout::from_size_align(16, align as usize).is_err() {
+            same("room at no alignment", Err(Refused { number: 6, count: 0 }), answer);
+            return;
+        }
+        let largest = answer.map_or(0, |told| told.0);
+        same("room: holes", Ok((largest, holes)), answer);
+        // what must be refused is asked first: a faulty original then never gets a block back that it should not have granted
+        let next = largest.max(8) + 8;
+        for size in [next, next + 8] {
+            if asked(&mut self.heap, size, align).is_some() {
+                differ(&format!("room at {align}"), format!("grants {size}"), largest)
+            }
+        }
+        if largest % 8 != 0 || largest > 0 && !granted(&mut self.heap, largest, align) {
+            differ(&format!("room at {align}"), "does not grant it", largest)
+        }
+    }
+
+    /// Lists, sums, room and readers of both.
+    fn compare(&mut self, aligns: &mut Rng, counts: &mut Counts) {
         let holes = self.original_holes();
         let (addrs, sizes) = (&mut self.rows.0, &mut self.rows.1);
         same("list", Ok((holes.len() as u64, self.heap.free() as u64)), self.ours.list(addrs, sizes));
         for (i, hole) in holes.iter().enumerate() {
             same("hole", *hole, (addrs[i], sizes[i]));
         }
-        let largest = holes.iter().map(|h| h.1).max().unwrap_or(0);
-        same("room", Ok((largest, holes.len() as u64)), self.ours.room());
+        self.compare_room(1, holes.len() as u64, counts);
+        self.compare_room(any_align(aligns), holes.len() as u64, counts);
+        same("room: the original's holes after the tries", &holes, &self.original_holes());
         same("bottom", self.heap.bottom() as u64, self.ours.bottom());
         same("top", self.heap.top() as u64, self.ours.top());
         same("size", self.heap.size() as u64, self.ours.size());
@@ -281,6 +323,16 @@ fn random_align(rng: &mut Rng) -> u64 {
     }
 }
 
+/// An alignment for the room report, and now and then a number that is no alignment.
+fn any_align(rng: &mut Rng) -> u64 {
+    if rng.one_in(32) { 3 * rng.below(4) } else { random_align(rng) }
+}
+
+/// These alignments have a generator of their own: the calls of a seed do not depend on what is compared between them.
+fn aligns_of(seed: u64) -> Rng {
+    Rng(seed.wrapping_mul(2) | 1)
+}
+
 fn random_size(rng: &mut Rng, len: u64) -> u64 {
     match rng.below(24) {
         0 => rng.next(),
@@ -292,7 +344,7 @@ fn random_size(rng: &mut Rng, len: u64) -> u64 {
 }
 
 /// The largest heap with as many holes as there can be: 4,096 blocks of 16 bytes, every other one given back.
-fn most_holes(memory: &mut Memory, space: &mut [u8], counts: &mut Counts) {
+fn most_holes(memory: &mut Memory, space: &mut [u8], aligns: &mut Rng, counts: &mut Counts) {
     let mut pair = Pair::open(memory, space, 0, ARENA).unwrap();
     for i in 0..ARENA / 16 {
         pair.allocate(16, 8, i as u8, counts);
@@ -301,7 +353,7 @@ fn most_holes(memory: &mut Memory, space: &mut [u8], counts: &mut Counts) {
         let i = pair.held.iter().position(|b| b.addr == pair.base + 32 * k).unwrap();
         pair.free(i, counts);
     }
-    pair.compare(counts);
+    pair.compare(aligns, counts);
     pair.compare_held(counts);
     same("the most holes", ARENA as u64 / 32, counts.most);
     counts.runs += 1;
@@ -310,10 +362,11 @@ fn most_holes(memory: &mut Memory, space: &mut [u8], counts: &mut Counts) {
 fn run(seed: u64, calls: u64) -> Counts {
     // a generator of this kind must not start from 0
     let mut rng = Rng(if seed == 0 { 0x9e37_79b9_7f4a_7c15 } else { seed });
+    let mut aligns = aligns_of(seed);
     let mut counts = Counts::default();
     let mut memory = Memory::new();
     let mut space = vec![0u8; ARENA];
-    most_holes(&mut memory, &mut space, &mut counts);
+    most_holes(&mut memory, &mut space, &mut aligns, &mut counts);
     while counts.calls < calls {
         counts.runs += 1;
         let residue = (counts.runs % 16) as usize;
@@ -328,7 +381,7 @@ fn run(seed: u64, calls: u64) -> Counts {
         noise(memory.bytes(residue, len), &mut rng);
         noise(&mut space[..len], &mut rng);
         let Some(mut pair) = Pair::open(&mut memory, &mut space[..len], residue, named) else { continue };
-        pair.compare(&mut counts);
+        pair.compare(&mut aligns, &mut counts);
         let turns = 20 + rng.below(if len < 1_000 { 200 } else { 1_500 });
         let keep = rng.below(90);
         for turn in 0..turns {
@@ -347,7 +400,7 @@ fn run(seed: u64, calls: u64) -> Counts {
                 }
             }
             if len < 1_000 || turn % 64 == 0 {
-                pair.compare(&mut counts);
+                pair.compare(&mut aligns, &mut counts);
                 pair.compare_held(&mut counts);
                 if rng.one_in(4) {
                     pair.scribble(&mut rng);
@@ -359,7 +412,7 @@ fn run(seed: u64, calls: u64) -> Counts {
             let i = rng.below(pair.held.len() as u64) as usize;
             pair.free(i, &mut counts);
         }
-        pair.compare(&mut counts);
+        pair.compare(&mut aligns, &mut counts);
         same("all given back", vec![(pair.heap.bottom() as u64, pair.heap.size() as u64)], pair.original_holes());
     }
     counts
@@ -389,6 +442,7 @@ fn tilings(units: usize, free_before: bool, so_far: &mut Vec<(usize, bool)>, all
 fn exhaustive(most: usize) -> Counts {
     let mut counts = Counts::default();
     let mut rng = Rng(7);
+    let mut aligns = aligns_of(7);
     let mut memory = Memory::new();
     let mut space = vec![0u8; ARENA];
     for units in 2..=most {
@@ -397,7 +451,7 @@ fn exhaustive(most: usize) -> Counts {
         for tiling in &all {
             for residue in [0usize, 8] {
                 let len = units * 8 + 40;
-                let build = |memory: &mut Memory, space: &mut [u8], counts: &mut Counts, act: &mut dyn FnMut(&mut Pair, &mut Counts)| {
+                let mut build = |memory: &mut Memory, space: &mut [u8], counts: &mut Counts, act: &mut dyn FnMut(&mut Pair, &mut Counts)| {
                     let Some(mut pair) = Pair::open(memory, space, residue, units * 8) else { return };
                     for (n, _) in tiling {
                         pair.allocate(*n as u64 * 8, 1, 0x5a, counts);
@@ -410,9 +464,9 @@ fn exhaustive(most: usize) -> Counts {
                         }
                         at += *n as u64 * 8;
                     }
-                    pair.compare(counts);
+                    pair.compare(&mut aligns, counts);
                     act(&mut pair, counts);
-                    pair.compare(counts);
+                    pair.compare(&mut aligns, counts);
                     pair.compare_held(counts);
                     counts.runs += 1;
                 };
@@ -437,74 +491,126 @@ fn exhaustive(most: usize) -> Counts {
     counts
 }
 
-/// Calls as wire frames, and the original's answers as wire lines, marked by '='. Addresses are told from a nominal base, a multiple of 2^20.
+/// The original alone: each call is printed as a wire frame, and its answer as wire lines, marked by '='.
+struct Scribe {
+    heap: Heap,
+    /// What an address gains when it is told.
+    shift: u64,
+    given: usize,
+    held: Vec<(u64, u64, u64)>,
+}
+
+impl Scribe {
+    fn tell(&self, a: u64) -> u64 {
+        a.wrapping_add(self.shift)
+    }
+
+    fn extend(&mut self, by: usize) {
+        println!("04{by:016x}");
+        if self.given + by > ARENA {
+            println!("=09{:016x}{:016x}", 0, 0);
+        } else {
+            self.given += by;
+            unsafe { self.heap.extend(by) };
+            println!("=00{:016x}{:016x}", self.heap.size(), self.heap.read_pending());
+        }
+    }
+
+    fn list(&self) {
+        println!("05");
+        let holes = holes_of(&self.heap);
+        println!("=00{:016x}{:016x}", holes.len(), self.heap.free());
+        for (a, s) in holes {
+            println!("=20{:016x}{:016x}", self.tell(a), s);
+        }
+    }
+
+    /// The largest rounded size that is granted, found by trying every one from the largest hole's down.
+    fn room(&mut self, align: u64) {
+        println!("06{align:016x}");
+        if Layout::from_size_align(16, align as usize).is_err() {
+            println!("=06{:016x}{:016x}", 0, 0);
+            return;
+        }
+        let holes = holes_of(&self.heap);
+        let most = holes.iter().map(|h| h.1).max().unwrap_or(0);
+        let largest = (16..=most).rev().step_by(8).find(|size| granted(&mut self.heap, *size, align)).unwrap_or(0);
+        println!("=00{largest:016x}{:016x}", holes.len());
+    }
+
+    fn free(&mut self, i: usize) {
+        let (a, s, g) = self.held.swap_remove(i);
+        println!("03{:016x}{s:016x}{g:016x}", self.tell(a));
+        unsafe { self.heap.deallocate(NonNull::new(a as *mut u8).unwrap(), Layout::from_size_align(s as usize, g as usize).unwrap()) };
+        println!("=00{:016x}{:016x}", (s.max(16) + 7) / 8 * 8, self.heap.used());
+    }
+
+    fn allocate(&mut self, size: u64, align: u64) {
+        println!("02{size:016x}{align:016x}");
+        let before = holes_of(&self.heap);
+        match self.heap.allocate_first_fit(Layout::from_size_align(size as usize, align as usize).unwrap()) {
+            Ok(p) => {
+                let a = p.as_ptr() as u64;
+                let place = before.iter().position(|h| h.0 <= a && a < h.0 + h.1).unwrap() + 1;
+                println!("=00{:016x}{:016x}", self.tell(a), place);
+                self.held.push((a, size, align));
+            }
+            Err(()) => println!("=07{:016x}{:016x}", 0, before.len()),
+        }
+    }
+
+    /// Holes for the room report, on a heap that is given back whole: none; one of 48 bytes, of which 32 lie behind a multiple of 32; with
+    /// it one of 40 bytes at a multiple of 32, which wins there. Last come numbers that are no alignment, and the grant of what was told.
+    fn rooms(&mut self) {
+        while !self.held.is_empty() {
+            self.free(self.held.len() - 1);
+        }
+        let rest = self.heap.size() as u64 - (72 + 48 + 32 + 40);
+        for size in [72, 48, 32, 40, rest] {
+            self.allocate(size, 1);
+        }
+        for freed in [None, Some(48), Some(40)] {
+            if let Some(i) = self.held.iter().position(|b| Some(b.1) == freed) {
+                self.free(i);
+            }
+            for align in [1, 2, 16, 32, 64, 1 << 62] {
+                self.room(align);
+            }
+            self.allocate(48, 32);
+        }
+        for align in [0, 3, 1 << 63, u64::MAX] {
+            self.room(align);
+        }
+        self.allocate(40, 32);
+        self.room(32);
+    }
+}
+
+/// Calls of the original as wire frames, each followed by its lines. Addresses are told from a nominal base, a multiple of 2^20.
 fn sample(seed: u64, lines: u64) {
     let mut rng = Rng(seed | 1);
+    let mut aligns = aligns_of(seed);
     let mut memory = Memory::new();
-    let mut heap = Heap::empty();
     let nominal = 0x10_0000u64 + 5;
     let real = memory.start as u64 + 5;
     noise(memory.bytes(0, ARENA + 16), &mut rng);
-    let mut given = 40_000usize;
-    println!("01{nominal:016x}{given:016x}");
-    unsafe { heap.init(memory.start.add(5), given) };
-    let tell = |a: u64| a - real + nominal;
-    println!("=00{:016x}{:016x}", tell(heap.bottom() as u64), heap.size());
-    let mut held: Vec<(u64, u64, u64)> = Vec::new();
-    let list = |heap: &Heap| {
-        let mut holes = Vec::new();
-        heap.read_list(&mut |a, s| holes.push((a as u64, s as u64)));
-        holes
-    };
+    let mut scribe = Scribe { heap: Heap::empty(), shift: nominal.wrapping_sub(real), given: 40_000, held: Vec::new() };
+    println!("01{nominal:016x}{:016x}", scribe.given);
+    unsafe { scribe.heap.init(memory.start.add(5), scribe.given) };
+    println!("=00{:016x}{:016x}", scribe.tell(scribe.heap.bottom() as u64), scribe.heap.size());
     for _ in 1..lines {
         match rng.below(40) {
-            0 => {
-                let by = rng.below(60) as usize;
-                println!("04{by:016x}");
-                if given + by > ARENA {
-                    println!("=09{:016x}{:016x}", 0, 0);
-                } else {
-                    given += by;
-                    unsafe { heap.extend(by) };
-                    println!("=00{:016x}{:016x}", heap.size(), heap.read_pending());
-                }
-            }
-            1 => {
-                println!("05");
-                let holes = list(&heap);
-                println!("=00{:016x}{:016x}", holes.len(), heap.free());
-                for (a, s) in holes {
-                    println!("=20{:016x}{:016x}", tell(a), s);
-                }
-            }
-            2 => {
-                println!("06");
-                let holes = list(&heap);
-                println!("=00{:016x}{:016x}", holes.iter().map(|h| h.1).max().unwrap_or(0), holes.len());
-            }
-            n if n < 18 && !held.is_empty() => {
-                let (a, s, g) = held.swap_remove(rng.below(held.len() as u64) as usize);
-                println!("03{:016x}{s:016x}{g:016x}", tell(a));
-                unsafe { heap.deallocate(NonNull::new(a as *mut u8).unwrap(), Layout::from_size_align(s as usize, g as usize).unwrap()) };
-                println!("=00{:016x}{:016x}", (s.max(16) + 7) / 8 * 8, heap.used());
-            }
+            0 => scribe.extend(rng.below(60) as usize),
+            1 => scribe.list(),
+            2 => scribe.room(any_align(&mut aligns)),
+            n if n < 18 && !scribe.held.is_empty() => scribe.free(rng.below(scribe.held.len() as u64) as usize),
             _ => {
                 let size = if rng.one_in(30) { rng.below(70_000) } else { rng.below(400) };
-                let align = 1u64 << rng.below(13);
-                println!("02{size:016x}{align:016x}");
-                let before = list(&heap);
-                match heap.allocate_first_fit(Layout::from_size_align(size as usize, align as usize).unwrap()) {
-                    Ok(p) => {
-                        let a = p.as_ptr() as u64;
-                        let place = before.iter().position(|h| h.0 <= a && a < h.0 + h.1).unwrap() + 1;
-                        println!("=00{:016x}{:016x}", tell(a), place);
-                        held.push((a, size, align));
-                    }
-                    Err(()) => println!("=07{:016x}{:016x}", 0, before.len()),
-                }
+                scribe.allocate(size, 1u64 << rng.below(13))
             }
         }
     }
+    scribe.rooms();
 }
 
 #[derive(Clone, Copy)]
@@ -627,7 +733,7 @@ fn side(who: &str, first: &[u64], turns: &[Turn], memory: &mut Memory, space: &m
     if original {
         heap.read_list(&mut |_, _| n += 1);
     } else {
-        n = ours.room().unwrap().1 as usize;
+        n = ours.room(1).unwrap().1 as usize;
     }
     (took, driven, n)
 }
@@ -686,7 +792,7 @@ fn main() {
         _ => panic!("usage: against run SEED CALLS | tilings UNITS | sample SEED LINES | bench CALLS | trace NAME WHO CALLS"),
     };
     println!(
-        "agree: {} calls in {} runs ({} grants, {} without room, {} bad layouts, {} frees, {} extensions, {} past the arena); {} lists with {} holes, at most {}; {} held bytes",
+        "agree: {} calls in {} runs ({} grants, {} without room, {} bad layouts, {} frees, {} extensions, {} past the arena); {} lists with {} holes, at most {}; {} room reports; {} held bytes",
         counts.calls,
         counts.runs,
         counts.grants,
@@ -698,6 +804,7 @@ fn main() {
         counts.lists,
         counts.holes,
         counts.most,
+        counts.rooms,
         counts.bytes
     );
 }

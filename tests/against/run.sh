@@ -1,6 +1,7 @@
 #!/usr/bin/env bash
-# The original and Leanlantern on the same calls, on shared ground: every answer, hole list, reader and held byte must agree.
-# Then the same comparison against copies of the original with a planted fault, each of which it must report.
+# The original and Leanlantern on the same calls, on shared ground: every answer, hole list, room report, reader and held byte must
+# agree. Then the same comparison with a planted fault in a copy of the original, or of the bindings through which ours is asked; it must
+# report each.
 #
 # usage: tests/against/run.sh [--short] [--seed N] [ORIGINAL-FOLDER]     (default folder: ../shared/docs/src beside the repository)
 set -euo pipefail
@@ -32,12 +33,30 @@ need_library "$root"
 work=$(mktemp -d)
 trap 'rm -rf "$work"' EXIT
 
+# usage: build_driver NAME DRIVER ORIGINAL [OPTION]
+build_driver() {
+    rustc --edition 2021 ${4:+"$4"} "$2" --extern "linked_list_allocator=$3/liblinked_list_allocator.rlib" \
+        -L "$root/target/staticlib" -l static=leanlantern -o "$work/$1/against"
+}
+
 # usage: build_against NAME [SED-EXPRESSION]
 build_against() {
     mkdir "$work/$1"
     build_original "$original" "$work/$1/liblinked_list_allocator.rlib" "${2:-}"
-    rustc --edition 2021 -O "$here/main.rs" --extern "linked_list_allocator=$work/$1/liblinked_list_allocator.rlib" \
-        -L "$root/target/staticlib" -l static=leanlantern -o "$work/$1/against"
+    build_driver "$1" "$here/main.rs" "$work/$1" -O
+}
+
+# usage: build_faulty_ours NAME SED-EXPRESSION   (the fault is in a copy of the bindings, and the original is the true one; the first
+# difference comes at once, so nothing is optimised)
+build_faulty_ours() {
+    mkdir -p "$work/$1/tests/against" "$work/$1/bindings"
+    cp "$here/main.rs" "$work/$1/tests/against/"
+    sed "$2" "$root/bindings/leanlantern.rs" >"$work/$1/bindings/leanlantern.rs"
+    if cmp -s "$root/bindings/leanlantern.rs" "$work/$1/bindings/leanlantern.rs"; then
+        echo "against: the planted fault $1 does not fit the bindings" >&2
+        return 1
+    fi
+    build_driver "$1" "$work/$1/tests/against/main.rs" "$work/true"
 }
 
 build_against true
@@ -46,17 +65,28 @@ echo "tilings of up to $units units"
 echo "random runs, seed $seed"
 "$work/true/against" run "$seed" "$calls"
 
-# usage: must_report NAME SED-EXPRESSION MODE NUMBER..   (what the fault breaks is in the name)
-must_report() {
-    local name=$1 status=0
-    build_against "$name" "$2"
+# usage: reported NAME WHAT MODE NUMBER..   (WHAT: how the difference begins)
+reported() {
+    local name=$1 what=$2 status=0
     shift 2
     "$work/$name/against" "$@" >"$work/$name/out" 2>&1 || status=$?
-    if [ "$status" -ne 1 ] || ! grep -q '^DIFFERENCE' "$work/$name/out"; then
+    if [ "$status" -ne 1 ] || ! grep -q "^DIFFERENCE: $what" "$work/$name/out"; then
         echo "against: the planted fault $name was not reported (exit status $status)" >&2
         exit 1
     fi
     echo "planted fault $name: $(grep -m 1 '^DIFFERENCE' "$work/$name/out")"
+}
+
+# usage: must_report NAME SED-EXPRESSION MODE NUMBER..   (what the fault breaks is in the name)
+must_report() {
+    build_against "$1" "$2"
+    reported "$1" '' "${@:3}"
+}
+
+# usage: must_report_room NAME SED-EXPRESSION MODE NUMBER..   (the same of our room report, at a true alignment)
+must_report_room() {
+    build_faulty_ours "$1" "$2"
+    reported "$1" 'room at [0-9]' "${@:3}"
 }
 
 must_report no_back_of_16 's/if back_padding_end <= hole_end/if back_padding_end < hole_end/' tilings 7
@@ -64,4 +94,6 @@ must_report front_of_8 's/hole_addr_u8.wrapping_add(HoleList::min_size())/hole_a
 must_report joins_before_only 's/^            (cursor, 2)$/            (cursor, 1)/' tilings 7
 must_report extends_from_17 's/if extend_by < minimum_extend/if extend_by <= minimum_extend/' tilings 7
 must_report back_of_16_in_runs 's/if back_padding_end <= hole_end/if back_padding_end < hole_end/' run "$seed" 100000
+must_report_room room_forgets_alignment 's/\(c::lantern_room(.*\), align, /\1, if align.is_power_of_two() { 1 } else { align }, /' tilings 7
+must_report_room room_16_less '/c::lantern_room(/a answer[0] = answer[0].saturating_sub(16);' tilings 7
 echo "against: no difference; every planted fault reported"

@@ -5,12 +5,18 @@ ghost use Rattle.rules.specs.Calls as Calls;
 ghost use Rattle.rules.specs.Outcome.{after, rows};
 ghost use Rattle.c_face.specs.Face.{heapOf, Tells, Lists};
 
-// The size of the largest hole, the number of holes. Heap and arena are only read.
+// The largest rounded size that allocate would grant at the alignment, the number of holes. Heap and
+// arena are only read.
 #[no_mangle]
-pub extern "C" fn lantern_room(heap: &[u64; 7], arena: &[u8], answer: &mut [u64; 2]) -> u64
-    ensures { λ r. ⌜ Tells (after Calls.room (heapOf (now (heap .entry))) (now (arena .entry)) .answer) r (now (answer .exit)) ⌝ }
+pub extern "C" fn lantern_room(
+    heap: &[u64; 7],
+    arena: &[u8],
+    align: u64,
+    answer: &mut [u64; 2],
+) -> u64
+    ensures { λ r. ⌜ Tells (after (Calls.room align) (heapOf (now (heap .entry))) (now (arena .entry)) .answer) r (now (answer .exit)) ⌝ }
 {
-    tell(answer, reports::room(load(heap), arena))
+    tell(answer, reports::room(load(heap), arena, align))
 }
 
 // The number of holes, the free bytes; addresses and sizes go into the rows, in order, as many as the

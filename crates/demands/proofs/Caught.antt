@@ -44,7 +44,7 @@ unfolding accepted
 accepted-accepts (opening base named) len h ks = λ r e. let z : _≡_ {A = ℕ} 0 1 = cc in omega arith
 accepted-accepts (change c) len h ks = by-change Accepts h ks (λ r e. tt) (λ a h′ js e p. p) c len
 accepted-accepts (report Report.list) len h ks = λ r e. let z : _≡_ {A = ℕ} 0 1 = cc in omega arith
-accepted-accepts (report Report.room) len h ks = λ r e. let z : _≡_ {A = ℕ} 0 1 = cc in omega arith
+accepted-accepts (report (Report.room align)) len h ks = λ r e. let z : _≡_ {A = ℕ} 0 1 = cc in omega arith
 
 outcome-accepts : (c : Call) (h : Heap) (m : List ℕ) → Accepts (outcome c h m)
 unfolding outcome

@@ -112,7 +112,7 @@ module _ (b e : Behaviour) (sb : Statements b) (se : Statements e) (h : Heap) (m
   rows-same (opening base named) = other-rows (opening base named) (λ k. let z : _≡_ {A = ℕ} 0 1 = cc in omega arith)
   rows-same (change c) = other-rows (change c) (λ k. let z : _≡_ {A = ℕ} 0 1 = cc in omega arith)
   rows-same (report Report.list) = list-rows
-  rows-same (report Report.room) = other-rows room (λ k. let z : _≡_ {A = ℕ} 0 1 = cc in omega arith)
+  rows-same (report (Report.room align)) = other-rows (room align) (λ k. let z : _≡_ {A = ℕ} 0 1 = cc in omega arith)
 
 -- ---- answer, heap and arena
 

@@ -2,7 +2,7 @@
 -- one heap, where it does not do as ours does; one that is committed once is caught there, by a statement. Assumes nothing.
 use mathlib.Core.Path.{_≡_, refl, sym, ap, _∙_}
 use mathlib.Core.List.{List, [], _∷_, List·Memᴰ, List·Memᴰ·head, List·Memᴰ·tail, List·Memᴰ·not-nil, List·Memᴰ·cases-cons, Memᴰ·append-right}
-use mathlib.Core.Logic.{inl, ⊎-elim}
+use mathlib.Core.Logic.{inl, inr, ⊎-elim}
 use Prim.Native.Nat.{ℕ, _+_}
 use native.Mathlib.Omega.{arith}
 use lib.ListN.{length, getD}
@@ -63,7 +63,7 @@ frauds =
           (λ b (c, h, m, f, z, e) sb. not-swapped b sb c h m f z (refused-of b sb c h m OtherLength f e));
       sumNotTested =
           shut (answering [] (Room 0 0)) (
-            room,
+            list,
             half,
             [],
             tt,
@@ -209,13 +209,31 @@ frauds =
           ⊎-elim (λ z. omega (arith, z)) (λ z. omega (arith, z))
           (f 2 48 half stage (asked b sb list tt) (says b sb list half tt (shown .lists))));
       roomZeros =
-          shut (answering [] (Room 0 0)) (λ x y h m asks e. inl (let z : x ≡ 0 = cc in z))
+          shut (answering [] (Room 0 0)) (λ align x y h m asks e. inl (let z : x ≡ 0 = cc in z))
           (λ b f sb.
           ⊎-elim (λ z. omega (arith, z)) (λ z. omega (arith, z))
-          (f 24 2 half stage (asked b sb room tt) (says b sb room half tt (shown .reports))));
+          (f 8 24 2 half stage (asked b sb (room 8) (omega arith)) (says b sb (room 8) half (omega arith) (shown .reports))));
+      roomForgetsAlignment =
+          shut (answering halves (Room 24 2))
+          (λ align x y h m k asks e in′.
+          let z : x ≡ 24 = cc in
+          ⊎-elim
+          (λ q. let s : k .size ≡ 24 = ap (λ (j : Hole). j .size) q in omega arith)
+          (λ d. ⊎-elim (λ q. let s : k .size ≡ 24 = ap (λ (j : Hole). j .size) q in omega arith) (λ d. absurd (List·Memᴰ·not-nil d)) (List·Memᴰ·cases-cons d))
+          (List·Memᴰ·cases-cons in′))
+          (λ b f sb.
+          let l =
+          f 32 0 2 half stage (hole (addr 0x1030) 24) (asked b sb (room 32) (omega arith))
+          (says b sb (room 32) half (omega arith) (shown .crooked)) (rw (two b sb) (List·Memᴰ·tail (List·Memᴰ·head refl))) in
+          omega (arith, l));
+      roomSaysSixteen =
+          shut (answering [] (Room 16 1)) (λ align x y h m asks e. inr (let z : x ≡ 16 = cc in z))
+          (λ b f sb.
+          ⊎-elim (λ z. omega (arith, z)) (λ z. omega (arith, z))
+          (f 8 24 2 half stage (asked b sb (room 8) (omega arith)) (says b sb (room 8) half (omega arith) (shown .reports))));
       scribble =
           shut (writing (Room 0 0) (1 ∷ []))
-          (room, half, 0 ∷ [], 0, tt, (λ k in′ w. List·Memᴰ·not-nil in′), (λ e. let z : _≡_ {A = ℕ} 1 0 = e in omega (arith, z)))
+          (list, half, 0 ∷ [], 0, tt, (λ k in′ w. List·Memᴰ·not-nil in′), (λ e. let z : _≡_ {A = ℕ} 1 0 = e in omega (arith, z)))
           (λ b (c, h, m, i, f, out, n) sb.
           by-outcome (b .outcome c h m)
           (λ r p. n (ap (λ (w : List ℕ). getD w i 0) (sb .refusalsKeep c h m noRows r p .2)))

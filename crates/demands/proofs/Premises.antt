@@ -11,9 +11,9 @@ use Rattle.rules.specs.declared.Refusal.{Refusal}
 use Rattle.rules.specs.declared.Answer.{Answer}
 use Rattle.rules.specs.Kinds.{addr, place}
 use Rattle.rules.specs.Words.{word, store}
-use Rattle.rules.specs.Holes.{hole, headAt, putHead, holesFrom, firstOf, putHeads, total, largest}
+use Rattle.rules.specs.Holes.{hole, headAt, putHead, holesFrom, firstOf, putHeads, total}
 use Rattle.rules.specs.Sound.{unopened, soundNumbers, gap, lie, rise, leaveBefore, leaveAfter, soundHoles, sound, holes}
-use Rattle.rules.specs.Allocate.{rounded, candidate, suits, later, find, remains, split}
+use Rattle.rules.specs.Allocate.{rounded, candidate, suits, later, find, grantOf, largestGrant, remains, split}
 use Rattle.rules.specs.Free.{inFront, freed, overlaps, eightToHole}
 use Rattle.rules.specs.Calls.{allocate, refused, done, opened, taken, given, grown, gathered, extended, accepted}
 use Rattle.rules.specs.Readers.{readAddr}
@@ -61,12 +61,12 @@ never e = let z : _≡_ {A = ℕ} 0 1 = cc in absurd (omega arith)
 
 -- the two frees that are accepted name a held block, whatever comes after the story
 honest : (asks : List Ask) → Honest asks (ends story start) → Honest (story ++ asks) start
-unfolding onesIn firstOf total soundNumbers gap lie rise leaveBefore leaveAfter soundHoles sound rounded candidate suits later find remains split inFront freed overlaps eightToHole opened taken given grown gathered extended accepted tests unless decided sameBlock without answerNumbers heldAfter boxAfter nextBox ends
+unfolding onesIn firstOf total soundNumbers gap lie rise leaveBefore leaveAfter soundHoles sound rounded candidate suits later find grantOf largestGrant remains split inFront freed overlaps eightToHole opened taken given grown gathered extended accepted tests unless decided sameBlock without answerNumbers heldAfter boxAfter nextBox ends
 honest asks p =
     (tt, (tt, (tt, (tt, (tt, (tt, (λ a h ks e. List·Memᴰ·tail (List·Memᴰ·head refl), (λ a h ks e. List·Memᴰ·head refl, (tt, (tt, (tt, (λ a h ks e. never e, (tt, (tt, (tt, (tt, (tt, (tt, (tt, (tt, p))))))))))))))))))))
 
 boxes : Boxes
-unfolding onesIn word store headAt putHead holesFrom firstOf putHeads total largest soundNumbers gap lie rise leaveBefore leaveAfter soundHoles sound holes rounded candidate suits later find remains split inFront freed overlaps eightToHole opened taken given grown gathered extended accepted tests unless decided outcome leaves after over inRows leavesRows rowsAfter readAddr reading agree headsAgree lawful play unlike writes sameBlock without answerNumbers heldAfter boxAfter nextBox ends
+unfolding onesIn word store headAt putHead holesFrom firstOf putHeads total soundNumbers gap lie rise leaveBefore leaveAfter soundHoles sound holes rounded candidate suits later find grantOf largestGrant remains split inFront freed overlaps eightToHole opened taken given grown gathered extended accepted tests unless decided outcome leaves after over inRows leavesRows rowsAfter readAddr reading agree headsAgree lawful play unlike writes sameBlock without answerNumbers heldAfter boxAfter nextBox ends
 boxes =
     let one = play 96 0xa1 moves unopened (noise 0xa0) refl in
     let two = play 96 0xc1 moves unopened (noise 0xc0) refl in

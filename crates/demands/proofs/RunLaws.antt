@@ -18,10 +18,10 @@ use Rattle.rules.specs.Tests.{any}
 use Rattle.rules.specs.Kinds.{addr, same}
 use Rattle.rules.specs.Holes.{holesFrom}
 use Rattle.rules.specs.Sound.{unopened, most, holes}
-use Rattle.rules.specs.Changes.{Change}
+use Rattle.rules.specs.Changes.{Change, Report}
 use Rattle.rules.specs.Calls.{Call, opening, change, report, Outcome, refused, told, done, accepted}
 use Rattle.rules.specs.Answers.{refusalNumbers}
-use Rattle.rules.specs.Refusals.{Test, changeTests, tests, unless}
+use Rattle.rules.specs.Refusals.{Test, changeTests, reportTests, tests, unless}
 use Rattle.rules.specs.Outcome.{decided, outcome, leaves, after, Rows, rowsAfter}
 use Rattle.rules.specs.InWords.{Sound}
 use Rattle.rules.specs.Runs.{Fits, Reader, reading, Ask, calls, reads, AllFit, Told, answers, says, Kept, Run, end, own, other, asked, Box, start, comesTo, boxAfter, answerOf, nextBox, tellBox, tells, ends}
@@ -101,7 +101,7 @@ decided-elsewhere : (c : Call) (n : ℕ) (h : Heap) (ks : List Hole) → (h .bot
 unfolding decided tests
 decided-elsewhere (opening base named) n h ks o d = unfold unless in rw (ne-eqb (h .bottom .0) 0 o)
 decided-elsewhere (change c) n h ks o d = unless-4 n h ks (changeTests c h ks) _ o d
-decided-elsewhere (report r) n h ks o d = unless-4 n h ks [] _ o d
+decided-elsewhere (report r) n h ks o d = unless-4 n h ks (reportTests r) _ o d
 
 module _
     (c : Call) (n : ℕ) (b : Box) (h : Heap) (m w : List ℕ) (f : Follows b h m) (o : h .bottom .0 ≡ 0 → ⊥)
@@ -214,13 +214,18 @@ change-spare (Change.allocate s align) h ks = (refl, tt)
 change-spare (Change.free x s align) h ks = (refl, (refl, tt))
 change-spare (Change.extend by) h ks = (refl, tt)
 
+report-spare : (r : Report) → Spare (reportTests r)
+unfolding refusalNumbers
+report-spare Report.list = tt
+report-spare (Report.room align) = (refl, tt)
+
 -- behind 3, 4 and 5
 rest-spare : (c : Call) (n : ℕ) (h : Heap) (ks : List Hole) → NoFive (unless (rest c h ks) (accepted c n h ks))
 unfolding unless accepted
 rest-spare (opening base named) n h ks = tt
 rest-spare (change c) n h ks =
     unless-spare (changeTests c h ks) _ (change-spare c h ks) (by-change NoFive h ks (λ r e. e) (λ a h′ js e p. tt) c n)
-rest-spare (report r) n h ks = tt
+rest-spare (report r) n h ks = unless-spare (reportTests r) _ (report-spare r) tt
 
 later-spare : (c : Call) (n : ℕ) (b : Box) → Opens c ≡ false → Whole b → NoFive (comesTo c n b)
 unfolding refusalNumbers

@@ -174,15 +174,21 @@ module _ (b e : Behaviour) (sb : Statements b) (se : Statements e) (h : Heap) (m
       (λ p q g j same.
       sb .listDoes h m noRows g .0 ∙ sym (rw same at (se .listDoes h m noRows j .0)))
 
-  room-settled : b .outcome room h m ≡ e .outcome room h m
-  room-settled =
+  room-settled : (align : ℕ) → Fits (room align) → b .outcome (room align) h m ≡ e .outcome (room align) h m
+  room-settled align f =
+      let d = sb .refusalsExactly (room align) h m f in
+      let k = se .refusalsExactly (room align) h m f in
       entry b e sb se h m
-      (λ r p q. p _ _ (sb .refusalsExactly room h m tt) ∙ sym (q _ _ (se .refusalsExactly room h m tt)))
+      (λ r p q. p _ _ d ∙ sym (q _ _ k))
       (λ p q g j same.
-      let (n1, g1, e1) = sb .roomDoes h m g in
-      let (n2, g2, e2) = rw same at (se .roomDoes h m j) in
-      let n = one-largest (b .holes h m) n1 n2 g1 g2 in
-      e1 ∙ rw n (sym e2))
+      decide (no-layout 16 align f)
+      (λ n. p _ _ d .0 n ∙ sym (q _ _ k .0 n))
+      (λ n.
+      let v : Valid 16 align 16 = unfold rounded in valid 16 align f n in
+      let (n1, g1, e1) = sb .roomDoes h m align g v in
+      let (n2, g2, e2) = se .roomDoes h m align j v in
+      let one = one-largest b e h m align n1 n2 (λ s w. allocate-settled s align w) g1 g2 in
+      e1 ∙ rw one (rw same at (sym e2))))
 
   pub settled : (c : Call) → Fits c → b .outcome c h m ≡ e .outcome c h m
   settled (opening base named) f = opening-settled base named f
@@ -190,4 +196,4 @@ module _ (b e : Behaviour) (sb : Statements b) (se : Statements e) (h : Heap) (m
   settled (change (Change.free x s align)) f = free-settled x s align f
   settled (change (Change.extend by)) f = extend-settled by f
   settled (report Report.list) f = list-settled
-  settled (report Report.room) f = room-settled
+  settled (report (Report.room align)) f = room-settled align f

@@ -11,9 +11,9 @@ use Rattle.rules.specs.declared.Answer.{Answer}
 use Rattle.rules.specs.declared.Answer.the-variants.{Opened, Allocated, Freed, Extended, Listed, Room}
 use Rattle.rules.specs.Kinds.{addr}
 use Rattle.rules.specs.Words.{word, store}
-use Rattle.rules.specs.Holes.{hole, headAt, putHead, holesFrom, firstOf, putHeads, total, largest}
+use Rattle.rules.specs.Holes.{hole, headAt, putHead, holesFrom, firstOf, putHeads, total}
 use Rattle.rules.specs.Sound.{unopened, soundNumbers, gap, lie, rise, leaveBefore, leaveAfter, soundHoles, sound, holes}
-use Rattle.rules.specs.Allocate.{rounded, candidate, suits, later, find, remains, split}
+use Rattle.rules.specs.Allocate.{rounded, candidate, suits, later, find, grantOf, largestGrant, remains, split}
 use Rattle.rules.specs.Free.{inFront, freed, overlaps, eightToHole}
 use Rattle.rules.specs.Calls.{Call, opening, allocate, free, extend, list, room, opened, taken, given, grown, gathered, extended, accepted}
 use Rattle.rules.specs.Refusals.{tests, unless}
@@ -87,10 +87,11 @@ pub record Shown : Type 0 where
   pub grows : after (extend 14) half stage .answer ≡ Extended 80 1
   pub growsMore : after (extend 14) more stage .answer ≡ Extended 80 2
   pub lists : after list half stage .answer ≡ Listed 2 48
-  pub reports : after room half stage .answer ≡ Room 24 2
+  pub reports : after (room 8) half stage .answer ≡ Room 24 2
+  pub crooked : after (room 32) half stage .answer ≡ Room 0 2
 
 pub shown : Shown
-unfolding onesIn word store headAt putHead holesFrom firstOf putHeads total largest soundNumbers gap lie rise leaveBefore leaveAfter soundHoles sound holes rounded candidate suits later find remains split inFront freed overlaps eightToHole opened taken given grown gathered extended accepted tests unless decided outcome leaves after
+unfolding onesIn word store headAt putHead holesFrom firstOf putHeads total soundNumbers gap lie rise leaveBefore leaveAfter soundHoles sound holes rounded candidate suits later find grantOf largestGrant remains split inFront freed overlaps eightToHole opened taken given grown gathered extended accepted tests unless decided outcome leaves after
 shown =
     record {
       opening = refl;
@@ -111,6 +112,7 @@ shown =
       growsMore = refl;
       lists = refl;
       reports = refl;
+      crooked = refl;
     }
 
 -- ---- on one heap, all that meet the statements do as ours

@@ -179,10 +179,25 @@ pub record Frauds : Type 0 where
   pub listZeros :
       Caught
       (λ b. (x y : ℕ) (h : Heap) (m : List ℕ) → Asked b list h m → b .after list h m .answer ≡ Listed x y → (x ≡ 0) ⊎ (y ≡ 0))
-  -- each room answers a 0
+  -- each room report answers a 0
   pub roomZeros :
       Caught
-      (λ b. (x y : ℕ) (h : Heap) (m : List ℕ) → Asked b room h m → b .after room h m .answer ≡ Room x y → (x ≡ 0) ⊎ (y ≡ 0))
+      (λ b.
+      (align x y : ℕ) (h : Heap) (m : List ℕ) → Asked b (room align) h m → b .after (room align) h m .answer ≡ Room x y
+      → (x ≡ 0) ⊎ (y ≡ 0))
+  -- each forgets the alignment: it names no less than the largest hole
+  pub roomForgetsAlignment :
+      Caught
+      (λ b.
+      (align x y : ℕ) (h : Heap) (m : List ℕ) (k : Hole) → Asked b (room align) h m → b .after (room align) h m .answer ≡ Room x y
+      → List·Memᴰ k (b .holes h m)
+      → k .size ≤ x)
+  -- each says 16, whenever anything fits
+  pub roomSaysSixteen :
+      Caught
+      (λ b.
+      (align x y : ℕ) (h : Heap) (m : List ℕ) → Asked b (room align) h m → b .after (room align) h m .answer ≡ Room x y
+      → (x ≡ 0) ⊎ (x ≡ 16))
   -- once, a call changes a byte that lies in no head of the holes it leaves
   pub scribble :
       Caught

@@ -56,10 +56,10 @@ story =
     ∷ lent 96 (extend 9)
     -- shorter and longer memory
     ∷ lent 95 list
-    ∷ lent 97 room
+    ∷ lent 97 (room 8)
     -- the reports, and a reader
     ∷ calls list (rows (1 ∷ 2 ∷ 3 ∷ []) (4 ∷ 5 ∷ 6 ∷ 7 ∷ [])) 96
-    ∷ lent 96 room
+    ∷ lent 96 (room 32)
     ∷ reads Reader.top
     ∷ []
 
@@ -83,7 +83,7 @@ replies =
     ∷ reply (Refused OtherLength)
     ∷ reply (Refused OtherLength)
     ∷ answers (Listed 2 64) (rows (0x1008 ∷ 0x1030 ∷ 3 ∷ []) (24 ∷ 40 ∷ 6 ∷ 7 ∷ []))
-    ∷ reply (Room 40 2)
+    ∷ reply (Room 24 2)
     ∷ says 0x1059
     ∷ []
 

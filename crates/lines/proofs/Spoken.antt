@@ -46,14 +46,14 @@ abbrev pub lists : Call → Bool
 lists (opening base named) = false
 lists (change c) = false
 lists (report Report.list) = true
-lists (report Report.room) = false
+lists (report (Report.room align)) = false
 
 accepted-shown : (c : Call) (len : ℕ) (h : Heap) (ks : List Hole) → lists c ≡ false → shown (accepted c len h ks) ≡ []
 unfolding accepted shown
 accepted-shown (opening base named) len h ks e = refl
 accepted-shown (change c) len h ks e = by-change (λ o. shown o ≡ []) h ks (λ r q. refl) (λ a h′ js q p. refl) c len
 accepted-shown (report Report.list) len h ks e = apart refl e
-accepted-shown (report Report.room) len h ks e = refl
+accepted-shown (report (Report.room align)) len h ks e = refl
 
 call-shown : (c : Call) (h : Heap) (m : List ℕ) → lists c ≡ false → shown (outcome c h m) ≡ []
 unfolding outcome shown

@@ -56,7 +56,7 @@ forms =
     ∷ form 0x03 3 (λ n. is.Free (n 0) (n 1) (n 2))
     ∷ form 0x04 1 (λ n. is.Extend (n 0))
     ∷ form 0x05 0 (λ n. is.List)
-    ∷ form 0x06 0 (λ n. is.Room)
+    ∷ form 0x06 1 (λ n. is.Room (n 0))
     ∷ []
 
 -- no call has more numbers

@@ -49,7 +49,7 @@ reply (is.Allocate s align) h m = replyTo (allocate s align) h m
 reply (is.Free a s align) h m = replyTo (free (addr a) s align) h m
 reply (is.Extend by) h m = replyTo (extend by) h m
 reply is.List h m = replyTo list h m
-reply is.Room h m = replyTo room h m
+reply (is.Room align) h m = replyTo (room align) h m
 reply is.Bad h m = record { printed = line 0xff 0 0; heap = h; arena = m }
 
 -- what a line, its LF taken off, comes to

@@ -68,8 +68,8 @@ pub fn answer_line(
         }
         Frame::Extend { by } => tell(out, extend::extend(h, arena, by)),
         Frame::List => tell_list(h, arena, out),
-        Frame::Room => {
-            let answer = reports::room(h, arena);
+        Frame::Room { align } => {
+            let answer = reports::room(h, arena, align);
             tell(out, Done { heap: h, answer })
         }
         Frame::Bad => {

@@ -17,8 +17,8 @@ pub enum Frame {
     Extend { by: u64 },
     // 05: no number.
     List,
-    // 06: no number.
-    Room,
+    // 06: alignment.
+    Room { align: u64 },
     // Any other line.
     Bad,
 }
@@ -104,7 +104,7 @@ fn count_of(call: u64) -> usize
         0x03 => 3,
         0x04 => 1,
         0x05 => 0,
-        0x06 => 0,
+        0x06 => 1,
         _ => 0,
     }
 }
@@ -133,7 +133,7 @@ fn made(line: &[u8], call: u64) -> Frame
         },
         0x04 => Frame::Extend { by: first },
         0x05 => Frame::List,
-        0x06 => Frame::Room,
+        0x06 => Frame::Room { align: first },
         _ => Frame::Bad,
     }
 }

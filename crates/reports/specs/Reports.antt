@@ -4,8 +4,8 @@ use mathlib.Core.List.{List}
 use Prim.Native.Nat.{ℕ, _+_}
 use lib.Dec.{eqb}
 use lib.ListN.{length}
-use Rattle.rules.specs.Holes.{largest}
 use Rattle.rules.specs.Sound.{size, soundHoles}
+use Rattle.rules.specs.Allocate.{largestGrant}
 use Rattle.rules.specs.declared.Hole.{Hole}
 use Rattle.rules.specs.declared.Heap.{Heap}
 use Rattle.walk.specs.Walk.{isEnd}
@@ -17,5 +17,5 @@ use Rattle.reports.specs.declared.Survey.the-variants as survey
 unfoldable pub endsSound : Heap → Step → ℕ → Bool
 endsSound h st total = cond (isEnd st) (eqb (total + h .used) (size h)) false
 
-unfoldable pub surveyOf : Heap → List Hole → Survey
-surveyOf h ks = cond (soundHoles h ks) (survey.Of (length ks) (largest ks)) survey.Bad
+unfoldable pub surveyOf : Heap → ℕ → List Hole → Survey
+surveyOf h align ks = cond (soundHoles h ks) (survey.Of (length ks) (largestGrant align ks)) survey.Bad

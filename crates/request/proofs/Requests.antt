@@ -1,6 +1,6 @@
 -- A request by what its tests come to: a refusal of the call that makes it, or all that the call leans on. Assumes nothing.
 use mathlib.Core.Path.{_≡_, refl, _∙_}
-use mathlib.Core.Bool.{true, cond}
+use mathlib.Core.Bool.{true, false, cond}
 use mathlib.Core.List.{List, [], _∷_}
 use Prim.Native.Nat.{ℕ, _%_, _^_, _<_}
 use native.Mathlib.Omega.{arith}
@@ -9,9 +9,8 @@ use denote.Enum.Declared.{tagOf}
 use types.Run.{OneOf}
 use Rattle.rules.specs.Fixed.{grain, width}
 use Rattle.rules.specs.Sound.{soundNumbers, soundHoles, holes}
-use Rattle.rules.specs.Changes.{Change}
-use Rattle.rules.specs.Calls.{change, refused}
-use Rattle.rules.specs.Refusals.{Test, test, refusal6, layoutOf, changeTests}
+use Rattle.rules.specs.Calls.{Call}
+use Rattle.rules.specs.Refusals.{Test, test, refusal6, layoutOf}
 use Rattle.rules.specs.Outcome.{after}
 use Rattle.rules.specs.declared.Heap.{Heap}
 use Rattle.rules.specs.declared.Refusal.{Refusal}
@@ -22,6 +21,7 @@ use Rattle.rules.specs.Inner.{Lent, refusing, Fulfils}
 use Rattle.rules.proofs.Layout as Layouts
 use Rattle.rules.proofs.Layouts.{rounded-least, rounded-multiple, layout-valid}
 use Rattle.rules.proofs.Walk.{sound-fair}
+use Rattle.rules.proofs.Decide.{rest, Opens}
 use Rattle.rules.proofs.Calls.{layout-6}
 use Rattle.rules.proofs.Written.{fulfils-later}
 use Rattle.numbers.specs.Checks.{checkedOf}
@@ -47,20 +47,19 @@ pub record Requested (h : Heap) (m : List ℕ) (s align w : ℕ) : Type 0 where
 
 module _ (h : Heap) (m : List ℕ) (s align : ℕ) where
   -- it is refused
-  no-by : (c : Change) {ts : List Test} → changeTests c h (holes h m) ≡ test BadLayout (refusal6 s align) ∷ ts → {r : Refusal}
-      → (v : Checked) → checkedOf (length m) h ≡ v → (l : Layout) → layoutOf s align ≡ l → byNumbers v l h m ≡ No r
-      → Fulfils (after (change c) h m) m (refusing h r)
-  unfolding byNumbers byLayout
-  no-by c t {r} (checked.No x) k l q e = let a : x ≡ r = cc in rw (← a) (fulfils-no (change c) h m refl k)
-  no-by c t checked.Fair k (Rounded w) q e = let z : _≡_ {A = ℕ} 0 1 = cc in absurd (omega arith)
-  no-by c t {r} checked.Fair k Bad q e =
-      let p = passes (length m) h k in
-      let a : cond (soundHoles h (holes h m)) BadLayout NotSound ≡ r = cc in
-      rw (← a) (fulfils-later (change c) h m BadLayout (layout-6 h m (p .0) (p .1) c s align t q))
+  module _ (c : Call) (later : Opens c ≡ false) {ts : List Test} (t : rest c h (holes h m) ≡ test BadLayout (refusal6 s align) ∷ ts) {r : Refusal} where
+    no-by : (v : Checked) → checkedOf (length m) h ≡ v → (l : Layout) → layoutOf s align ≡ l → byNumbers v l h m ≡ No r
+        → Fulfils (after c h m) m (refusing h r)
+    unfolding byNumbers byLayout
+    no-by (checked.No x) k l q e = let a : x ≡ r = cc in rw (← a) (fulfils-no c h m later k)
+    no-by checked.Fair k (Rounded w) q e = let z : _≡_ {A = ℕ} 0 1 = cc in absurd (omega arith)
+    no-by checked.Fair k Bad q e =
+        let p = passes (length m) h k in
+        let a : cond (soundHoles h (holes h m)) BadLayout NotSound ≡ r = cc in
+        rw (← a) (fulfils-later c h m BadLayout (layout-6 h m (p .0) (p .1) c later s align t q))
 
-  pub requested-no : (c : Change) {ts : List Test} → changeTests c h (holes h m) ≡ test BadLayout (refusal6 s align) ∷ ts → {r : Refusal}
-      → requestOf h m s align ≡ No r → Fulfils (after (change c) h m) m (refusing h r)
-  requested-no c t e = no-by c t (checkedOf (length m) h) refl (layoutOf s align) refl e
+    pub requested-no : requestOf h m s align ≡ No r → Fulfils (after c h m) m (refusing h r)
+    requested-no e = no-by (checkedOf (length m) h) refl (layoutOf s align) refl e
 
   -- it goes on
   of-by : {w : ℕ} → align < 2 ^ width → (v : Checked) → checkedOf (length m) h ≡ v → (l : Layout) → layoutOf s align ≡ l

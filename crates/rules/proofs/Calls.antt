@@ -15,15 +15,13 @@ use Rattle.rules.specs.declared.Refusal.the-variants.{BadOpening, Alread
 use Rattle.rules.specs.declared.Layout.the-variants.{Rounded, Bad}
 use Rattle.rules.specs.declared.Answer.{Answer}
 use Rattle.rules.specs.declared.Answer.the-variants.{Opened, Listed, Room, Refused}
-use Rattle.rules.specs.Fixed.{grain}
+use Rattle.rules.specs.Fixed.{minSize, grain}
 use Rattle.rules.specs.Tests.{any}
 use Rattle.rules.specs.Kinds.{raised}
-use Rattle.rules.specs.Holes.{largest}
 use Rattle.rules.specs.Sound.{size, soundNumbers, soundHoles, holes}
-use Rattle.rules.specs.Allocate.{find}
-use Rattle.rules.specs.Changes.{Change}
-use Rattle.rules.specs.Calls.{Call, opening, change, allocate, free, extend, list, room, Outcome, refused, told, done, onlyHole, opened, taken, accepted}
-use Rattle.rules.specs.Refusals.{Test, test, refusal1, refusal6, layoutOf, openedTests, changeTests, tests, unless}
+use Rattle.rules.specs.Allocate.{find, largestGrant}
+use Rattle.rules.specs.Calls.{Call, opening, allocate, free, extend, list, room, Outcome, refused, told, done, onlyHole, opened, taken, accepted}
+use Rattle.rules.specs.Refusals.{Test, test, refusal1, refusal6, layoutOf, openedTests, tests, unless}
 use Rattle.rules.specs.Outcome.{decided, outcome, leaves, after, Rows, inRows, leavesRows, rowsAfter}
 use Rattle.rules.specs.Inner.{sifted, freeing, extending}
 use Rattle.rules.proofs.Cases.{cases}
@@ -90,11 +88,11 @@ module _ (c : Call) (h : Heap) (m : List ℕ) (later : Opens c ≡ false) where
 -- ---- call by call
 
 module _ (h : Heap) (m : List ℕ) (lent : length m ≡ h .len) (fair : soundNumbers h ≡ true) where
-  -- a change whose first test behind 5 is 6
-  pub layout-6 : (c : Change) {ts : List Test} (s align : ℕ) → changeTests c h (holes h m) ≡ test BadLayout (refusal6 s align) ∷ ts
-      → layoutOf s align ≡ Bad → outcome (change c) h m ≡ sifted h (holes h m) (refused BadLayout)
+  -- a call whose first test behind 5 is 6
+  pub layout-6 : (c : Call) → Opens c ≡ false → {ts : List Test} (s align : ℕ) → rest c h (holes h m) ≡ test BadLayout (refusal6 s align) ∷ ts
+      → layoutOf s align ≡ Bad → outcome c h m ≡ sifted h (holes h m) (refused BadLayout)
   unfolding unless
-  layout-6 c s align e b = outcome-fair (change c) h m refl lent fair ∙ rw (e, layout-refused s align b)
+  layout-6 c later s align e b = outcome-fair c h m later lent fair ∙ rw (e, layout-refused s align b)
 
   pub allocate-on : (s align : ℕ) {w : ℕ} → layoutOf s align ≡ Rounded w
       → outcome (allocate s align) h m ≡ sifted h (holes h m) (taken w align h (holes h m) (find w align (holes h m)))
@@ -118,9 +116,10 @@ module _ (h : Heap) (m : List ℕ) (lent : length m ≡ h .len) (fair : soundNum
   unfolding unless accepted
   list-on = outcome-fair list h m refl lent fair
 
-  pub room-on : outcome room h m ≡ sifted h (holes h m) (told (Room (largest (holes h m)) (length (holes h m))) [])
+  pub room-on : (align : ℕ) {w : ℕ} → layoutOf minSize align ≡ Rounded w
+      → outcome (room align) h m ≡ sifted h (holes h m) (told (Room (largestGrant align (holes h m)) (length (holes h m))) [])
   unfolding unless accepted
-  room-on = outcome-fair room h m refl lent fair
+  room-on align e = let l = layout-granted minSize align e in outcome-fair (room align) h m refl lent fair ∙ rw (l .0)
 
 -- ---- open
 

@@ -10,7 +10,7 @@ use Rattle.rules.specs.declared.Refusal.{Refusal}
 use Rattle.rules.specs.declared.Refusal.the-variants.{Unopened, OtherLength, NotSound}
 use Rattle.rules.specs.Sound.{soundNumbers, soundHoles}
 use Rattle.rules.specs.Calls.{Call, opening, change, report, Outcome, refused, accepted}
-use Rattle.rules.specs.Refusals.{Test, test, openedTests, changeTests, tests, unless}
+use Rattle.rules.specs.Refusals.{Test, test, openedTests, changeTests, reportTests, tests, unless}
 use Rattle.rules.specs.Outcome.{decided}
 use Rattle.rules.specs.Inner.{sifted}
 use Rattle.rules.proofs.Cases.{cases, apart}
@@ -50,7 +50,7 @@ module _ (len : ℕ) (h : Heap) (ks : List Hole) (ts : List Test) (o : Outcome) 
 abbrev pub rest : Call → Heap → List Hole → List Test
 rest (opening base named) h ks = []
 rest (change c) h ks = changeTests c h ks
-rest (report r) h ks = []
+rest (report r) h ks = reportTests r
 
 abbrev pub Opens : Call → Bool
 Opens (opening base named) = true

@@ -17,14 +17,14 @@ use Rattle.rules.specs.Round.{Power}
 use Rattle.rules.specs.Tests.{any}
 use Rattle.rules.specs.Sound.{soundNumbers, soundHoles, sound, holes}
 use Rattle.rules.specs.Allocate.{rounded, candidate, Found, nothing, found, find}
-use Rattle.rules.specs.Changes.{Change}
+use Rattle.rules.specs.Changes.{Change, Report}
 use Rattle.rules.specs.Calls.{opening, change, report, list, Outcome, refused, told, done, taken, given, gathered, grown, extended, accepted}
-use Rattle.rules.specs.Refusals.{refusal3, refusal4, Test, test, openedTests, changeTests, tests, unless}
+use Rattle.rules.specs.Refusals.{refusal3, refusal4, Test, test, openedTests, changeTests, reportTests, tests, unless}
 use Rattle.rules.specs.Outcome.{decided, outcome}
 use Rattle.rules.specs.InWords.{Rounds, RoomAt, NoLayout, NoSpan}
 use Rattle.rules.specs.Runs.{Fits}
 use Rattle.rules.specs.Behaviour.{ours}
-use Rattle.rules.specs.Statements.{Row, Decides, changeRows, refusalsOf, RefusalsExactly}
+use Rattle.rules.specs.Statements.{Row, Decides, changeRows, reportRows, refusalsOf, RefusalsExactly}
 use Rattle.rules.proofs.Cases.{cases, by-test, or-left}
 use Rattle.rules.proofs.Layouts.{layout-passed}
 use Rattle.rules.proofs.Decide.{one-test}
@@ -131,6 +131,13 @@ module _ (h : Heap) (m : List ℕ) where
       (refl, means-last (means-lt (h .base .0 + h .len) (h .top .0 + h .pending + by)), tt)
       (λ p. extended-passes by h (holes h m))
 
+  report-decides : (r : Report) → Fits (report r) → sound h (holes h m) ≡ true
+      → Decides (reportRows r) (unless (reportTests r) (accepted (report r) (length m) h (holes h m)))
+  unfolding unless accepted
+  report-decides Report.list f e = told-passes _ _
+  report-decides (Report.room align) f e =
+      decides (reportRows (Report.room align)) [] (reportTests (Report.room align)) _ (refl, no-layout 16 align f, tt) (λ p. told-passes _ _)
+
 pub refusals-exactly : RefusalsExactly ours
 unfolding outcome decided tests unless accepted
 refusals-exactly (opening base named) h m f =
@@ -139,4 +146,4 @@ refusals-exactly (opening base named) h m f =
     (λ p. done-passes _ _ _)
 refusals-exactly (change c) h m f =
     opened-decides h m (changeRows ours c h m) (changeTests c h (holes h m)) _ (change-decides h m c f)
-refusals-exactly (report r) h m f = opened-decides h m [] [] _ (λ e. told-passes _ _)
+refusals-exactly (report r) h m f = opened-decides h m (reportRows r) (reportTests r) _ (report-decides h m r f)

@@ -24,7 +24,7 @@ use Rattle.rules.proofs.Used.{find-splits, candidate-gap, candidate-low
 
 -- ---- the candidate
 
-candidate-multiple : (align : ℕ) (a : Addr) → 0 < align → candidate align a .0 % align ≡ 0
+pub candidate-multiple : (align : ℕ) (a : Addr) → 0 < align → candidate align a .0 % align ≡ 0
 unfolding candidate
 candidate-multiple align a pos =
     by-test (λ (c : Addr). c .0 % align ≡ 0) (multipleOf align a) a (raised align (plus a minSize))
@@ -88,7 +88,7 @@ module _ (r align : ℕ) (k : Hole) where
   lower c x (inl e) to back = rw e back
   lower c x (inr l) to back = inr (omega arith)
 
-  lies-suits : {x : ℕ} → Power align → k .addr .0 % grain ≡ 0 → Lies r align k x
+  pub lies-suits : {x : ℕ} → Power align → k .addr .0 % grain ≡ 0 → Lies r align k x
       → (suits r align k ≡ true) × (candidate align (k .addr) .0 ≤ x)
   unfolding suits
   lies-suits {x} p e8 lies =

@@ -49,7 +49,7 @@ module _ (r : Rows) where
   accepted-stays (opening base named) len h ks n = refl
   accepted-stays (change c) len h ks n = by-change Stays h ks (λ x e. refl) (λ a h′ js b p. refl) c len
   accepted-stays (report Report.list) len h ks n = absurd (n refl)
-  accepted-stays (report Report.room) len h ks n =
+  accepted-stays (report (Report.room align)) len h ks n =
       let k = min (length (r .addrs)) (length (r .sizes)) in
       rw (none-over k (r .addrs), none-over k (r .sizes))
 

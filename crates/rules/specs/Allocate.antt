@@ -37,6 +37,16 @@ unfoldable pub find : ℕ → ℕ → List Hole → Found
 find s align [] = nothing
 find s align (h ∷ hs) = cond (suits s align h) (found [] h hs) (later h (find s align hs))
 
+-- the largest rounded size that a hole has room for: what lies from the candidate to its end, if that is at least 16; else 0
+unfoldable pub grantOf : ℕ → Hole → ℕ
+grantOf align h =
+    cond (notAfter (plus (candidate align (h .addr)) minSize) (end h)) (bytesTo (candidate align (h .addr)) (end h)) 0
+
+-- the largest that any of the holes has room for, 0 if none
+unfoldable pub largestGrant : ℕ → List Hole → ℕ
+largestGrant align [] = 0
+largestGrant align (h ∷ hs) = max (grantOf align h) (largestGrant align hs)
+
 -- what remains between two addresses: nothing, or a hole
 unfoldable pub remains : Addr → Addr → List Hole
 remains lo hi = cond (same lo hi) [] (hole lo (bytesTo lo hi) ∷ [])

@@ -14,9 +14,9 @@ use Rattle.rules.specs.declared.Answer.the-variants.{Opened, Allocated, 
 use Rattle.rules.specs.Fixed.{minSize, grain}
 use Rattle.rules.specs.Round.{downTo}
 use Rattle.rules.specs.Kinds.{plus, bytesTo, raised}
-use Rattle.rules.specs.Holes.{hole, firstOf, largest}
+use Rattle.rules.specs.Holes.{hole, firstOf}
 use Rattle.rules.specs.Sound.{size}
-use Rattle.rules.specs.Allocate.{rounded, candidate, Found, nothing, found, find, split}
+use Rattle.rules.specs.Allocate.{rounded, candidate, Found, nothing, found, find, largestGrant, split}
 use Rattle.rules.specs.Free.{freed}
 use Rattle.rules.specs.Changes.{Change, Report}
 
@@ -40,8 +40,8 @@ extend by = change (Change.extend by)
 abbrev pub list : Call
 list = report Report.list
 
-abbrev pub room : Call
-room = report Report.room
+abbrev pub room : ℕ → Call
+room align = report (Report.room align)
 
 -- what comes of a call
 pub data Outcome : Type 0 where
@@ -131,12 +131,12 @@ extended by h ks =
 -- what a report answers
 abbrev pub reported : Report → Heap → List Hole → Answer
 reported Report.list h ks = Listed (length ks) (size h - h .used)
-reported Report.room h ks = Room (largest ks) (length ks)
+reported (Report.room align) h ks = Room (largestGrant align ks) (length ks)
 
 -- and the holes that go into the lent rows
 abbrev pub listed : Report → List Hole → List Hole
 listed Report.list ks = ks
-listed Report.room ks = []
+listed (Report.room align) ks = []
 
 -- ---- all of them
 

@@ -12,4 +12,5 @@ pub data Change : Type 0 where
 
 pub data Report : Type 0 where
   list : Report
-  room : Report
+  -- alignment
+  room : ℕ → Report

@@ -1,7 +1,7 @@
 -- Heads, and the list of holes that they hold: the only way from bytes to holes, and back. Definitions only.
 use mathlib.Core.List.{List, [], _∷_}
 use mathlib.Core.Bool.{true, false}
-use Prim.Native.Nat.{ℕ, zero, suc, _+_, max}
+use Prim.Native.Nat.{ℕ, zero, suc, _+_}
 use Rattle.rules.specs.declared.Addr.{Addr}
 use Rattle.rules.specs.declared.Place.{Place}
 use Rattle.rules.specs.declared.Head.{Head}
@@ -55,8 +55,3 @@ putHeads base (h ∷ hs) m =
 unfoldable pub total : List Hole → ℕ
 total [] = 0
 total (h ∷ hs) = h .size + total hs
-
--- the size of the largest hole, 0 if none
-unfoldable pub largest : List Hole → ℕ
-largest [] = 0
-largest (h ∷ hs) = max (h .size) (largest hs)

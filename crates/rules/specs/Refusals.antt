@@ -18,7 +18,7 @@ use Rattle.rules.specs.Holes.{hole, end}
 use Rattle.rules.specs.Sound.{arenaEnd, soundNumbers, soundHoles}
 use Rattle.rules.specs.Allocate.{rounded}
 use Rattle.rules.specs.Free.{overlaps, eight, eightToHole}
-use Rattle.rules.specs.Changes.{Change}
+use Rattle.rules.specs.Changes.{Change, Report}
 use Rattle.rules.specs.Calls.{Call, opening, change, report, onlyHole, Outcome, refused}
 
 -- ---- the table: a refusal is given exactly if one of its conditions holds
@@ -108,11 +108,16 @@ changeTests (Change.free a s align) h ks =
     test BadLayout (refusal6 s align) ∷ test BadSpan (refusal8 h ks (hole a (rounded s)) align) ∷ []
 changeTests (Change.extend by) h ks = test PastArena (refusal9 by h) ∷ []
 
+-- 6: the room report, behind those too, with the size counted as 16
+abbrev pub reportTests : Report → List Test
+reportTests Report.list = []
+reportTests (Report.room align) = test BadLayout (refusal6 minSize align) ∷ []
+
 -- open tests 2, then 1; the rest test in rising order
 unfoldable pub tests : Call → ℕ → Heap → List Hole → List Test
 tests (opening base named) len h ks = test AlreadyOpened (refusal2 h) ∷ test BadOpening (refusal1 len base named) ∷ []
 tests (change c) len h ks = openedTests len h ks ++ changeTests c h ks
-tests (report r) len h ks = openedTests len h ks
+tests (report r) len h ks = openedTests len h ks ++ reportTests r
 
 -- the first test that holds refuses; else the outcome
 unfoldable pub unless : List Test → Outcome → Outcome

@@ -14,7 +14,7 @@ use Rattle.rules.specs.Tests.{all}
 use Rattle.rules.specs.Kinds.{addr, same, number}
 use Rattle.rules.specs.Sound.{unopened, holes}
 use Rattle.rules.specs.Readers.{bottomOf, topOf, sizeOf, usedOf, freeOf}
-use Rattle.rules.specs.Changes.{Change}
+use Rattle.rules.specs.Changes.{Change, Report}
 use Rattle.rules.specs.Calls.{Call, opening, change, report, Outcome, refused, told, done}
 use Rattle.rules.specs.Answers.{answerNumbers}
 use Rattle.rules.specs.Outcome.{decided, after, Rows, leavesRows, rowsAfter}
@@ -27,7 +27,8 @@ Fits (opening base named) = (base .0 < 2 ^ 64) × (named < 2 ^ 64)
 Fits (change (Change.allocate s align)) = (s < 2 ^ 64) × (align < 2 ^ 64)
 Fits (change (Change.free x s align)) = (x .0 < 2 ^ 64) × (s < 2 ^ 64) × (align < 2 ^ 64)
 Fits (change (Change.extend by)) = by < 2 ^ 64
-Fits (report r) = Unit {0}
+Fits (report Report.list) = Unit {0}
+Fits (report (Report.room align)) = align < 2 ^ 64
 
 pub data Reader : Type 0 where
   bottom top size used freeBytes : Reader

@@ -19,7 +19,7 @@ use Rattle.rules.specs.Round.{Below}
 use Rattle.rules.specs.Kinds.{addr, place}
 use Rattle.rules.specs.Holes.{hole}
 use Rattle.rules.specs.Sound.{unopened, holes}
-use Rattle.rules.specs.Changes.{Change}
+use Rattle.rules.specs.Changes.{Change, Report}
 use Rattle.rules.specs.Calls.{Call, opening, change, report, allocate, free, extend, list, room, Outcome, refused, told, done}
 use Rattle.rules.specs.Answers.{numbers, answerNumbers}
 use Rattle.rules.specs.Outcome.{Rows, after, Is, rowsAfter}
@@ -88,11 +88,16 @@ changeRows b (Change.free x s align) h m =
     ∷ []
 changeRows b (Change.extend by) h m = row PastArena (h .base .0 + h .len < h .top .0 + h .pending + by) ∷ []
 
+-- a report, behind them too
+abbrev pub reportRows : Report → List Row
+reportRows Report.list = []
+reportRows (Report.room align) = row BadLayout (NoLayout 16 align) ∷ []
+
 abbrev pub refusalsOf : Behaviour → Call → Heap → List ℕ → List Row
 refusalsOf b (opening base named) h m =
     row AlreadyOpened (h .bottom .0 ≡ 0 → ⊥) ∷ row BadOpening (NoStart (length m) (base .0) named) ∷ []
 refusalsOf b (change c) h m = openedRows b h m ++ changeRows b c h m
-refusalsOf b (report r) h m = openedRows b h m
+refusalsOf b (report r) h m = openedRows b h m ++ reportRows r
 
 abbrev pub RefusalsExactly : Behaviour → Type 0
 RefusalsExactly b = (c : Call) (h : Heap) (m : List ℕ) → Fits c → Decides (refusalsOf b c h m) (b .outcome c h m)
@@ -213,15 +218,22 @@ ExtendGrows b =
     × (b .outcome (extend by) h m ≡ done (Extended (h .top .0 + s - h .bottom .0) (h .pending + by - s)) h′ new)
     × Joined h (b .holes h m) (h .top .0) s (h .top .0 + s) (h .pending + by - s) (h .used) h′ new
 
--- n is the size of the largest hole, 0 if none
-pub record Largest (ks : List Hole) (n : ℕ) : Type 0 where
-  pub most : (k : Hole) → List·Memᴰ k ks → k .size ≤ n
-  pub one : (ks ≡ [] → n ≡ 0) × ((ks ≡ [] → ⊥) → (k : Hole) × List·Memᴰ k ks × (k .size ≡ n))
+-- document 02, 1: "the largest rounded size that allocate would grant at that alignment, 0 if none"; this is of allocate itself
+pub record LargestGrant (b : Behaviour) (h : Heap) (m : List ℕ) (align n : ℕ) : Type 0 where
+  -- 0: every size is refused for room
+  pub none :
+      n ≡ 0 → (s r : ℕ) → Valid s align r → b .outcome (allocate s align) h m ≡ refused (NoRoom (length (b .holes h m)))
+  -- else n is a rounded size, and a request of n bytes is granted
+  pub some :
+      (n ≡ 0 → ⊥) → Valid n align n × Granted n align h (b .holes h m) (b .outcome (allocate n align) h m)
+  -- and every request whose rounded size is above n is refused for room
+  pub above :
+      (s r : ℕ) → Valid s align r → n < r → b .outcome (allocate s align) h m ≡ refused (NoRoom (length (b .holes h m)))
 
 abbrev pub RoomDoes : Behaviour → Type 0
 RoomDoes b =
-    (h : Heap) (m : List ℕ) → Good b h m
-    → (n : ℕ) × Largest (b .holes h m) n × (b .outcome room h m ≡ told (Room n (length (b .holes h m))) [])
+    (h : Heap) (m : List ℕ) (align : ℕ) → Good b h m → Valid 16 align 16
+    → (n : ℕ) × LargestGrant b h m align n × (b .outcome (room align) h m ≡ told (Room n (length (b .holes h m))) [])
 
 -- the i-th number of a row: of the i-th hole, as far as the shorter row holds; else what stood there
 abbrev pub rowAt : (Hole → ℕ) → List Hole → ℕ → List ℕ → List ℕ → Type 0

@@ -78,7 +78,8 @@ pub enum Answer {
     Extended { size: u64, pending: u64 },
     // List: how many holes there are, and the bytes in them.
     Listed { holes: u64, free: u64 },
-    // Room: the size of the largest hole, 0 if none, and how many there are.
+    // Room: the largest rounded size that allocate would grant at the alignment, 0 if none, and how many
+    // holes there are.
     Room { largest: u64, holes: u64 },
     // Any call: the paper's number and why.
     Refused(Refusal),

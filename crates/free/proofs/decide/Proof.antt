@@ -1,7 +1,6 @@
 -- `free::decide` meets its contract: the request is refused, or earns the span's tests what they ask. Assumes nothing.
 use mathlib.Core.Path.{refl, sym, _∙_}
 use borrow.Author.Needs.{needs}
-use Rattle.rules.specs.Changes.{Change}
 use Rattle.rules.specs.Calls.{free}
 use Rattle.rules.proofs.Calls.{free-on}
 use Rattle.rules.proofs.Written.{fulfils-left}
@@ -51,7 +50,7 @@ returns c =
     let s = start k in
     rw (c .refuse .ensures)
     (requested-no (s .args .h) (s .args .arena .now) (s .args .size) (s .args .align)
-    (Change.free (s .args .addr) (s .args .size) (s .args .align)) refl (sym (k .check .ensures .0) ∙ y .asked .given .1))
+    (free (s .args .addr) (s .args .size) (s .args .align)) refl refl (sym (k .check .ensures .0) ∙ y .asked .given .1))
 
 returns-2 : tie.Need-returns-2
 returns-2 c =

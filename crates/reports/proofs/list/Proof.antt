@@ -5,7 +5,7 @@ use borrow.Author.Needs.{needs}
 use Rattle.rules.specs.Calls.{list}
 use Rattle.rules.proofs.Calls.{answer-refused, answer-told, rows-refused, rows-told}
 use Rattle.numbers.proofs.Verdicts.{Tested, tested}
-use Rattle.reports.proofs.Gathered.{survey-says, report-no, report-broken, list-told, used-fits}
+use Rattle.reports.proofs.Gathered.{survey-says, report-no, list-broken, list-told, used-fits}
 use Rattle.reports.proofs.list.Statement.{statement}
 use Rattle.reports.proofs.list.Tie as tie
 
@@ -50,7 +50,7 @@ enum-told : tie.Need-enum-told
 enum-told c = search needs
 
 survey-requires : tie.Need-survey-requires
-survey-requires c κs = passed (c .before) .lent
+survey-requires c κs = (passed (c .before) .lent, record { power = record { exponent = 0; is = refl }; least = omega arith; room = omega arith })
 
 enum-known-found : tie.Need-enum-known-found
 enum-known-found c = search needs
@@ -63,7 +63,7 @@ returns-2 c =
     let v = c .before .before in
     let k = tests v in
     let s = start (k .before) .args in
-    let e = report-broken _ _ (passed k) list refl (survey-says _ _ (v .survey .ensures) (c .enum-told2 .given .1)) in
+    let e = list-broken _ _ (passed k) (survey-says _ _ 1 (v .survey .ensures) (c .enum-told2 .given .1)) in
     (sym (answer-refused list (s .h) (s .arena .now) _ e), sym (rows-refused list (s .h) (s .arena .now) _ _ e))
 
 fill-requires : tie.Need-fill-requires
@@ -74,7 +74,7 @@ fill-requires c κs =
     let known = k .before .before .before .before .before .shared-slice-known in
     record {
       ready = record { lent = passed k .lent; bytes = λ j. known .given j .fits };
-      sound = survey-says _ _ (v .survey .ensures) (f .found .given .1) .0;
+      sound = survey-says _ _ 1 (v .survey .ensures) (f .found .given .1) .0;
     }
 
 fair-size-requires : tie.Need-fair-size-requires
@@ -88,7 +88,7 @@ sub-t16 c =
     let z = c .before in
     let f = found z in
     let v = gathered f in
-    let u = used-fits _ _ (passed (tests v) .lent) (survey-says _ _ (v .survey .ensures) (f .found .given .1) .0) in
+    let u = used-fits _ _ (passed (tests v) .lent) (survey-says _ _ 1 (v .survey .ensures) (f .found .given .1) .0) in
     omega (arith, z .fair-size .ensures)
 
 same-length : tie.Need-same-length
@@ -105,7 +105,7 @@ returns-3 c =
     let v = gathered f in
     let k = tests v in
     let s = start (k .before) .args in
-    let e = list-told _ _ (passed k) (survey-says _ _ (v .survey .ensures) (f .found .given .1)) in
+    let e = list-told _ _ (passed k) 1 (survey-says _ _ 1 (v .survey .ensures) (f .found .given .1)) in
     (rw (z .fair-size .ensures) (sym (answer-told list (s .h) (s .arena .now) _ _ e)), filled ∙ sym (rows-told list (s .h) (s .arena .now) _ _ _ e))
 
 pub list-spec : {M : Type 1} → statement M

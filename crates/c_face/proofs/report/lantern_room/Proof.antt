@@ -18,7 +18,7 @@ returns : tie.Need-returns
 returns c =
     let taken = c .before .before in
     let s = taken .before .before .before .args in
-    reported (s .heap .now) (taken .load .ensures) room (s .arena .now) (c .before .room .ensures) (c .tell .ensures)
+    reported (s .heap .now) (taken .load .ensures) (room (s .align)) (s .arena .now) (c .before .room .ensures) (c .tell .ensures)
 
 pub lantern-room-spec : {M : Type 1} → statement M
 lantern-room-spec = tie.close (tie.spec load-requires room-requires tell-requires returns)

@@ -66,8 +66,8 @@ enum-told c = search needs
 tell-list-requires : tie.Need-tell-list-requires
 tell-list-requires c κs = search needs
 
-enum-told-2 : tie.Need-enum-told-2
-enum-told-2 c = search needs
+enum-known-frame-5 : tie.Need-enum-known-frame-5
+enum-known-frame-5 c = search needs
 
 room-requires : tie.Need-room-requires
 room-requires c κs = search needs
@@ -75,8 +75,8 @@ room-requires c κs = search needs
 tell-requires-5 : tie.Need-tell-requires-5
 tell-requires-5 c κs = search needs
 
-enum-told-3 : tie.Need-enum-told-3
-enum-told-3 c = search needs
+enum-told-2 : tie.Need-enum-told-2
+enum-told-2 c = search needs
 
 put-line-requires : tie.Need-put-line-requires
 put-line-requires c κs = search needs
@@ -134,11 +134,11 @@ returns-6 : tie.Need-returns-6
 unfolding reply
 returns-6 c =
     let called = c .before .before in
-    let f = called .before .before .before in
+    let f = called .before .before .before .before in
     let k = f .before .before in
     let s = start k .args in
-    let y = report-stays Report.room (s .h) (s .arena .now) in
-    replied-line room (s .h) (s .arena .now) (c .tell5 .result) (c .tell5 .last .0) (comes-to k (f .enum-told2 .given .1)) refl
+    let y = report-stays (Report.room _) (s .h) (s .arena .now) in
+    replied-line (room _) (s .h) (s .arena .now) (c .tell5 .result) (c .tell5 .last .0) (comes-to k (f .frame5 .given .1)) refl
     (called .room .ensures, y .0, y .1) (c .tell5 .ensures)
 
 returns-7 : tie.Need-returns-7
@@ -146,7 +146,7 @@ unfolding reply
 returns-7 c =
     let f = c .before .before in
     let after-read-frame = f .before .before in
-    rw (comes-to after-read-frame (f .enum-told3 .given .1))
+    rw (comes-to after-read-frame (f .enum-told2 .given .1))
     (refl, rw (c .put-line .ensures) (line-front 0xff 0 0 _), refl, search needs)
 
 pub answer-line-spec : {M : Type 1} → statement M
@@ -168,10 +168,10 @@ answer-line-spec =
     tell-requires-4
     enum-told
     tell-list-requires
-    enum-told-2
+    enum-known-frame-5
     room-requires
     tell-requires-5
-    enum-told-3
+    enum-told-2
     put-line-requires
     returns
     returns-2

@@ -45,7 +45,7 @@ returns-5 c = rw (c .match .keys5)
 
 returns-6 : tie.Need-returns-6
 unfolding formOf
-returns-6 c = rw (c .match .keys6)
+returns-6 c = let after-number-of = c .before .before .before in rw (c .match .keys6, after-number-of .number-of .ensures)
 
 returns-7 : tie.Need-returns-7
 returns-7 c = let call = c .before .before .before .before .before .args .call in rw (no-form forms call (search needs))
