@@ -6,6 +6,9 @@ mod c {
         pub fn lantern_open(heap: *mut u64, arena: *mut u8, len: usize, base: u64, named: u64, answer: *mut u64) -> u64;
         pub fn lantern_allocate(heap: *mut u64, arena: *mut u8, len: usize, size: u64, align: u64, answer: *mut u64) -> u64;
         pub fn lantern_free(heap: *mut u64, arena: *mut u8, len: usize, addr: u64, size: u64, align: u64, answer: *mut u64) -> u64;
+        pub fn lantern_resize(
+            heap: *mut u64, arena: *mut u8, len: usize, addr: u64, old_size: u64, align: u64, new_size: u64, answer: *mut u64,
+        ) -> u64;
         pub fn lantern_extend(heap: *mut u64, arena: *mut u8, len: usize, by: u64, answer: *mut u64) -> u64;
         pub fn lantern_room(heap: *const u64, arena: *const u8, len: usize, align: u64, answer: *mut u64) -> u64;
         pub fn lantern_list(
@@ -66,6 +69,15 @@ impl<'a> Lantern<'a> {
         let mut answer = [0; 2];
         let n = unsafe {
             c::lantern_free(self.words.as_mut_ptr(), self.arena.as_mut_ptr(), self.arena.len(), addr, size, align, answer.as_mut_ptr())
+        };
+        Self::told(n, answer)
+    }
+
+    /// New rounded size and used: the block grows or shrinks where it lies, and the bytes common to both sizes stay.
+    pub fn resize(&mut self, addr: u64, old: u64, align: u64, new: u64) -> Answer {
+        let mut answer = [0; 2];
+        let n = unsafe {
+            c::lantern_resize(self.words.as_mut_ptr(), self.arena.as_mut_ptr(), self.arena.len(), addr, old, align, new, answer.as_mut_ptr())
         };
         Self::told(n, answer)
     }

@@ -1,5 +1,6 @@
 /* The paper's example of lines on the wire, through the C calls: each answer is printed as the line that the paper gives, and held to it.
- * Then the readers, and the room report at several alignments. Built and run by c_example.sh. Exit status 1 where an answer differs.
+ * Then the readers, the room report at several alignments, and resizes. Built and run by c_example.sh. Exit status 1 where an answer
+ * differs.
  */
 #include <stdio.h>
 #include <string.h>
@@ -24,7 +25,7 @@ static const char *const wanted[] = {
 
 enum { LINES = sizeof wanted / sizeof *wanted };
 
-static unsigned printed, differing, rooms;
+static unsigned printed, differing, wrong;
 
 static void line(uint64_t byte, uint64_t one, uint64_t two)
 {
@@ -48,7 +49,25 @@ static void room(const uint64_t heap[7], size_t len, uint64_t align, uint64_t no
     if (told != no || answer[0] != largest || answer[1] != holes) {
         fprintf(stderr, "c_example: room at %llu: %llu, %llu, %llu\n", (unsigned long long)align, (unsigned long long)told,
                 (unsigned long long)answer[0], (unsigned long long)answer[1]);
-        rooms++;
+        wrong++;
+    }
+}
+
+/* a resize is answered so; refused, it changes neither heap nor arena */
+static void resize(uint64_t heap[7], size_t len, uint64_t addr, uint64_t old_size, uint64_t align, uint64_t new_size, uint64_t no,
+                   uint64_t rounded, uint64_t used)
+{
+    static uint8_t arena_before[ARENA];
+    uint64_t heap_before[7], answer[2] = {~0ull, ~0ull};
+    memcpy(heap_before, heap, sizeof heap_before);
+    memcpy(arena_before, arena, sizeof arena);
+    uint64_t told = lantern_resize(heap, arena, len, addr, old_size, align, new_size, answer);
+    int changed = memcmp(heap_before, heap, sizeof heap_before) != 0 || memcmp(arena_before, arena, sizeof arena) != 0;
+    if (told != no || answer[0] != rounded || answer[1] != used || (no != 0 && changed)) {
+        fprintf(stderr, "c_example: resize at %llx from %llu to %llu: %llu, %llu, %llu%s\n", (unsigned long long)addr,
+                (unsigned long long)old_size, (unsigned long long)new_size, (unsigned long long)told, (unsigned long long)answer[0],
+                (unsigned long long)answer[1], no != 0 && changed ? ", and something changed" : "");
+        wrong++;
     }
 }
 
@@ -108,7 +127,41 @@ int main(void)
     }
     /* no hole */
     room(heap, ARENA, 1, 0, 0, 0);
-    if (rooms != 0)
+
+    /* blocks of 16 at 0x1000 and of 48 at 0x1010: sizes that round alike, and 8 more or less where there is no hole */
+    for (int i = 0; i < 0x30; i++)
+        arena[0x10 + i] = (uint8_t)(i + 1);
+    resize(heap, ARENA, 0x1000, 1, 1, 0, 0, 0x10, 0x40);
+    resize(heap, ARENA, 0x1000, 0, 1, 0x18, 10, 0, 0);
+    resize(heap, ARENA, 0x1010, 0x30, 1, 0x28, 10, 0, 0);
+    /* 24 less is a hole of 24 at 0x1028: part of it, all but 8, more than it, and all of it; the first 24 bytes stay throughout */
+    resize(heap, ARENA, 0x1010, 0x30, 1, 0x18, 0, 0x18, 0x28);
+    room(heap, ARENA, 1, 0, 0x18, 1);
+    resize(heap, ARENA, 0x1010, 0x18, 1, 0x20, 0, 0x20, 0x30);
+    room(heap, ARENA, 1, 0, 0x10, 1);
+    resize(heap, ARENA, 0x1010, 0x20, 1, 0x28, 10, 0, 0);
+    resize(heap, ARENA, 0x1010, 0x20, 1, 0x31, 10, 0, 0);
+    resize(heap, ARENA, 0x1010, 0x20, 1, 0x30, 0, 0x30, 0x40);
+    room(heap, ARENA, 1, 0, 0, 0);
+    for (int i = 0; i < 0x18; i++)
+        if (arena[0x10 + i] != i + 1) {
+            fprintf(stderr, "c_example: byte %d of the resized block changed\n", i);
+            return 1;
+        }
+    /* no block that could be held, though 10 would hold too; no alignment, too large a size, old or new; the largest that is not */
+    resize(heap, ARENA, 0x1008, 0x10, 1, 0x18, 8, 0, 0);
+    resize(heap, ARENA, 0x1010, 0x30, 3, 0x30, 6, 0, 0);
+    resize(heap, ARENA, 0x1010, ~0ull, 1, 0x30, 6, 0, 0);
+    resize(heap, ARENA, 0x1010, 0x30, 1, ~0ull, 6, 0, 0);
+    resize(heap, ARENA, 0x1010, 0x30, 8, (1ull << 63) - 8, 10, 0, 0);
+    /* what is tested before */
+    memcpy(unsound, heap, sizeof unsound);
+    unsound[6] -= 8;
+    resize(unopened, ARENA, 0x1010, 0x30, 3, 0x30, 3, 0, 0);
+    resize(heap, ARENA - 1, 0x1010, 0x30, 3, 0x30, 4, 0, 0);
+    resize(unsound, ARENA, 0x1010, 0x30, 3, 0x30, 5, 0, 0);
+    resize(unsound, ARENA, 0x1010, 0x30, 1, 0x30, 5, 0, 0);
+    if (wrong != 0)
         return 1;
     if (printed != LINES || differing != 0) {
         fprintf(stderr, "c_example: %u lines of %d, %u of them differ\n", printed, LINES, differing);

@@ -20,7 +20,7 @@ import subprocess
 import sys
 import tempfile
 
-FILES = "Fixed Tests Round Kinds Words Holes Sound Allocate Free Calls Readers Refusals Answers Outcome".split()
+FILES = "Fixed Tests Round Kinds Words Holes Sound Allocate Free Resize Calls Readers Refusals Answers Outcome".split()
 
 # one name for another of the same type
 SWAPS = [
@@ -30,8 +30,8 @@ SWAPS = [
 ]
 # an order of tests is changed by exchanging what two of them give
 CONSTRUCTORS = {
-    "BadOpening", "Opened", "Unopened", "OtherLength", "NotSound", "BadLayout", "BadSpan", "PastArena", "Rounded", "Bad", "Opening", "Allocated",
-    "Freed", "Extended", "Listed", "Room",
+    "BadOpening", "Opened", "Unopened", "OtherLength", "NotSound", "BadLayout", "BadSpan", "PastArena", "BadStretch", "Rounded", "Bad", "Opening",
+    "Allocated", "Freed", "Resized", "Extended", "Listed", "Room",
 }
 # where a name that a mutant brings comes from
 HOMES = {

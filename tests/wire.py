@@ -21,7 +21,8 @@ import time
 HERE = os.path.dirname(os.path.dirname(os.path.abspath(__file__)))
 WIRE = os.path.abspath(sys.argv[1]) if len(sys.argv) > 1 else os.path.join(HERE, "target/bin/wire")
 LIMIT = 60  # seconds that a case may take
-FRAME = re.compile(rb"0[12][0-9a-f]{32}|03[0-9a-f]{48}|0[46][0-9a-f]{16}|05")
+FRAME = re.compile(rb"0[12][0-9a-f]{32}|03[0-9a-f]{48}|0[46][0-9a-f]{16}|05|07[0-9a-f]{64}")
+NUMBERS = {1: 2, 2: 2, 3: 3, 4: 1, 5: 0, 6: 1, 7: 4}  # how many each call has
 
 
 def line(number, *values):
@@ -32,6 +33,11 @@ BAD = line(0xFF, 0, 0)
 UNOPENED = line(3, 0, 0)
 OPEN = line(1, 0x1000, 0x10000)
 OPENED = line(0, 0x1000, 0x10000)
+
+
+def listed(*holes):
+    """The answer to list."""
+    return line(0, len(holes), sum(size for _, size in holes)) + b"".join(line(0x20, *hole) for hole in holes)
 
 
 def stored(name):
@@ -103,10 +109,12 @@ PIPE = subprocess.PIPE
 
 ALLOCATE = line(2, 24, 8)
 FREE = line(3, 0x1000, 24, 8)
+RESIZE = line(7, 0x1000, 24, 8, 48)
 STATE = OPEN + ALLOCATE
 STATED = OPENED + line(0, 0x1000, 1)
-LIST = line(0, 1, 0x10000 - 24) + line(0x20, 0x1018, 0x10000 - 24)
+LIST = listed((0x1018, 0x10000 - 24))
 ROOM = line(6, 1)
+ALL = (OPEN, ALLOCATE, FREE, line(4, 0), b"05\n", ROOM, RESIZE)
 
 # the room report: frames and their answers, on a heap of 152 bytes with blocks of 16, 48, 32, 40 and 16
 ROOMS = (
@@ -154,6 +162,137 @@ ROOMS = (
     (line(6, 8), line(0, 24, 1)),
 )
 
+# resize: frames and their answers, on a heap of 152 bytes with blocks of 24, 48, 32, 16 and 32
+RESIZES = (
+    # not opened, which comes before a bad layout
+    (line(7, 0x1000, 24, 3, 24), UNOPENED),
+    (line(1, 0x1000, 0x98), line(0, 0x1000, 0x98)),
+    (line(2, 24, 1), line(0, 0x1000, 1)),
+    (line(2, 48, 1), line(0, 0x1018, 1)),
+    (line(2, 32, 1), line(0, 0x1048, 1)),
+    (line(2, 16, 1), line(0, 0x1068, 1)),
+    (line(2, 32, 1), line(0, 0x1078, 1)),
+    # no hole: the same size, and sizes that round alike; 8 more, and 8 less
+    (line(7, 0x1000, 24, 1, 24), line(0, 24, 0x98)),
+    (line(7, 0x1000, 24, 1, 17), line(0, 24, 0x98)),
+    (line(7, 0x1000, 17, 8, 24), line(0, 24, 0x98)),
+    (line(7, 0x1000, 24, 1, 25), line(10, 0, 0)),
+    (line(7, 0x1000, 24, 1, 16), line(10, 0, 0)),
+    (line(7, 0x1000, 24, 1, 0), line(10, 0, 0)),
+    # sizes of at most 16 are one size
+    (line(7, 0x1068, 16, 1, 0), line(0, 16, 0x98)),
+    (line(7, 0x1068, 0, 1, 15), line(0, 16, 0x98)),
+    (line(7, 0x1068, 1, 8, 16), line(0, 16, 0x98)),
+    (line(7, 0x1068, 16, 1, 17), line(10, 0, 0)),
+    # 16 less is a hole of 16: 8 more would leave 8 of it, 17 more is too much, and 9 more is all of it
+    (line(7, 0x1018, 48, 1, 32), line(0, 32, 0x88)),
+    (b"05\n", listed((0x1038, 16))),
+    (line(7, 0x1018, 32, 1, 40), line(10, 0, 0)),
+    (line(7, 0x1018, 32, 1, 49), line(10, 0, 0)),
+    (b"05\n", listed((0x1038, 16))),
+    (line(7, 0x1018, 32, 1, 41), line(0, 48, 0x98)),
+    (b"05\n", listed()),
+    # 24 less is a hole of 24: 8 more leaves 16, 8 less is a hole of 24 again, 16 more would leave 8, and 24 more is all of it
+    (line(7, 0x1018, 48, 1, 24), line(0, 24, 0x80)),
+    (line(7, 0x1018, 24, 1, 32), line(0, 32, 0x88)),
+    (b"05\n", listed((0x1038, 16))),
+    (line(7, 0x1018, 32, 1, 24), line(0, 24, 0x80)),
+    (line(7, 0x1018, 24, 1, 40), line(10, 0, 0)),
+    (b"05\n", listed((0x1030, 24))),
+    (line(7, 0x1018, 24, 1, 48), line(0, 48, 0x98)),
+    # a freed block of 32 behind: 16 more leaves 16, then 8 more would leave 8, 17 more is too much, and 16 more is all of it
+    (line(3, 0x1048, 32, 1), line(0, 32, 0x78)),
+    (line(7, 0x1018, 48, 1, 64), line(0, 64, 0x88)),
+    (b"05\n", listed((0x1058, 16))),
+    (line(7, 0x1018, 64, 1, 72), line(10, 0, 0)),
+    (line(7, 0x1018, 64, 1, 81), line(10, 0, 0)),
+    (line(7, 0x1018, 64, 1, 80), line(0, 80, 0x98)),
+    (b"05\n", listed()),
+    (line(7, 0x1018, 80, 1, 16), line(0, 16, 0x58)),
+    (b"05\n", listed((0x1028, 64))),
+    (line(7, 0x1018, 16, 1, 48), line(0, 48, 0x78)),
+    # a hole that touches the front of a block is none of its stretch, and stays
+    (line(3, 0x1000, 24, 1), line(0, 24, 0x60)),
+    (line(7, 0x1068, 16, 1, 32), line(10, 0, 0)),
+    (line(7, 0x1068, 16, 1, 16), line(0, 16, 0x60)),
+    (line(7, 0x1018, 48, 1, 25), line(0, 32, 0x50)),
+    (b"05\n", listed((0x1000, 24), (0x1038, 48))),
+    (line(7, 0x1018, 25, 1, 80), line(0, 80, 0x80)),
+    (b"05\n", listed((0x1000, 24))),
+    (line(7, 0x1018, 80, 8, 48), line(0, 48, 0x60)),
+    # the block at top: 8 more, 8 less, and 16 less
+    (line(7, 0x1078, 32, 1, 40), line(10, 0, 0)),
+    (line(7, 0x1078, 32, 1, 24), line(10, 0, 0)),
+    (line(7, 0x1078, 32, 1, 16), line(0, 16, 0x50)),
+    (b"05\n", listed((0x1000, 24), (0x1048, 32), (0x1088, 16))),
+    # that hole does not touch the block before: only the block at top takes it, and not all but 8 bytes of it
+    (line(7, 0x1068, 16, 1, 32), line(10, 0, 0)),
+    (line(7, 0x1078, 16, 1, 24), line(10, 0, 0)),
+    (line(7, 0x1078, 16, 1, 32), line(0, 32, 0x60)),
+    (b"05\n", listed((0x1000, 24), (0x1048, 32))),
+    # bytes that are pending are no hole; once they are, the block grows over the old top
+    (line(4, 15), line(0, 0x98, 15)),
+    (line(7, 0x1078, 32, 1, 40), line(10, 0, 0)),
+    (line(4, 1), line(0, 0xA8, 0)),
+    (line(7, 0x1078, 32, 1, 40), line(10, 0, 0)),
+    (line(7, 0x1078, 32, 1, 48), line(0, 48, 0x70)),
+    (b"05\n", listed((0x1000, 24), (0x1048, 32))),
+    # no block that could be held, though 10 would hold too: a hole, off 8, off the alignment, past top, over a hole, 8 bytes in front of
+    # a hole, 8 bytes behind one, 8 bytes below top, below bottom, and at the last address
+    (line(7, 0x1048, 32, 1, 24), line(8, 0, 0)),
+    (line(7, 0x106C, 16, 1, 24), line(8, 0, 0)),
+    (line(7, 0x1068, 16, 16, 24), line(8, 0, 0)),
+    (line(7, 0x1078, 56, 1, 48), line(8, 0, 0)),
+    (line(7, 0x1018, 56, 1, 48), line(8, 0, 0)),
+    (line(7, 0x1018, 40, 1, 32), line(8, 0, 0)),
+    (line(7, 0x1020, 40, 1, 64), line(8, 0, 0)),
+    (line(7, 0x1078, 40, 1, 32), line(8, 0, 0)),
+    (line(7, 0xFF8, 16, 1, 24), line(8, 0, 0)),
+    (line(7, 0, 16, 1, 24), line(8, 0, 0)),
+    (line(7, (1 << 64) - 8, 16, 1, 24), line(8, 0, 0)),
+    # numbers that are no alignment, and a size too large, of the old layout or of the new one: before the block is looked at
+    (line(7, 0x1018, 48, 0, 48), line(6, 0, 0)),
+    (line(7, 0x1018, 48, 3, 48), line(6, 0, 0)),
+    (line(7, 0x1018, 48, 1 << 63, 48), line(6, 0, 0)),
+    (line(7, 0x1018, (1 << 63) - 7, 1, 48), line(6, 0, 0)),
+    (line(7, 0x1018, (1 << 64) - 1, 8, 48), line(6, 0, 0)),
+    (line(7, 0x1018, 48, 1, (1 << 63) - 7), line(6, 0, 0)),
+    (line(7, 0x1018, 48, 8, (1 << 64) - 1), line(6, 0, 0)),
+    (line(7, 0x1048, 32, 1, (1 << 63) - 7), line(6, 0, 0)),
+    # the largest size that passes: no block is so large, and no stretch
+    (line(7, 0x1018, (1 << 63) - 8, 8, 48), line(8, 0, 0)),
+    (line(7, 0x1018, 48, 8, (1 << 63) - 8), line(10, 0, 0)),
+    # frames with a number too few, and with none
+    (line(7, 0x1018, 48, 1), BAD),
+    (b"07\n", BAD),
+    # none of these changed a thing; what was resized is given back with its new size
+    (b"05\n", listed((0x1000, 24), (0x1048, 32))),
+    (line(3, 0x1078, 48, 1), line(0, 48, 0x40)),
+    (line(3, 0x1078, 32, 1), line(8, 0, 0)),
+    (line(7, 0x1018, 48, 8, 72), line(10, 0, 0)),
+    (line(7, 0x1018, 48, 8, 80), line(0, 80, 0x60)),
+    (line(3, 0x1018, 80, 8), line(0, 80, 0x10)),
+    (line(3, 0x1068, 16, 1), line(0, 16, 0)),
+    (b"05\n", listed((0x1000, 168))),
+)
+
+# and a block that takes the largest heap
+WHOLE = (
+    (OPEN, OPENED),
+    (ALLOCATE, line(0, 0x1000, 1)),
+    (line(7, 0x1000, 24, 8, 65536), line(0, 65536, 0x10000)),
+    (b"05\n", listed()),
+    (line(7, 0x1000, 65536, 8, 65528), line(10, 0, 0)),
+    (line(7, 0x1000, 65536, 8, 65537), line(10, 0, 0)),
+    (line(7, 0x1000, 65536, 8, 65520), line(0, 65520, 0xFFF0)),
+    (b"05\n", listed((0x10FF0, 16))),
+    (line(7, 0x1000, 65520, 8, 65528), line(10, 0, 0)),
+    (line(7, 0x1000, 65520, 8, 0), line(0, 16, 0x10)),
+    (b"05\n", listed((0x1010, 65520))),
+    (line(7, 0x1000, 0, 8, 24), line(0, 24, 0x18)),
+    (b"05\n", listed((0x1018, 65512))),
+)
+
 LINES = {
     "no input": (b"", b""),
     "a lone LF": (b"\n", BAD),
@@ -167,17 +306,21 @@ LINES = {
     "spaces": (b" 05\n05 \n0 5\n05\t\n", BAD * 4),
     "uppercase": (STATE + FREE.replace(b"1000", b"100A").upper() + b"0A\n05\n", STATED + BAD * 2 + LIST),
     "odd digits": (b"0\n5\n050\n" + OPEN[:-2] + b"\n", BAD * 4),
-    "half frames": (b"".join(f[:n] + b"\n" for f in (OPEN, ROOM) for n in range(len(f) - 1)), BAD * (34 + 18)),
-    "a digit too many": (b"".join(f[:-1] + b"0\n" for f in (OPEN, ALLOCATE, FREE, line(4, 0), b"05\n", ROOM)), BAD * 6),
-    "a number too many": (b"".join(f[:-1] + line(0, 8)[2:] for f in (OPEN, ALLOCATE, FREE, line(4, 0), b"05\n", ROOM)), BAD * 6),
+    "half frames": (b"".join(f[:n] + b"\n" for f in (OPEN, ROOM, RESIZE) for n in range(len(f) - 1)), BAD * (34 + 18 + 66)),
+    "a digit too many": (b"".join(f[:-1] + b"0\n" for f in ALL), BAD * 7),
+    "a number too many": (b"".join(f[:-1] + line(0, 8)[2:] for f in ALL), BAD * 7),
+    "another call's numbers": (b"".join(line(c, *[8] * n) for c in NUMBERS for n in range(6) if n != NUMBERS[c]), BAD * 35),
     "unknown calls": (b"".join(b"%02x\n" % n for n in range(256) if n != 5), BAD * 255),
+    "unknown calls with numbers": (b"".join(line(c, *[8] * n) for c in range(256) if c not in NUMBERS for n in range(1, 5)), BAD * 996),
     "room at alignments": (b"".join(f for f, _ in ROOMS), b"".join(a for _, a in ROOMS)),
+    "resizes": (b"".join(f for f, _ in RESIZES), b"".join(a for _, a in RESIZES)),
+    "resizes of the only block": (b"".join(f for f, _ in WHOLE), b"".join(a for _, a in WHOLE)),
     "NUL": (b"\0\n05\0\n\0" + b"05\n" + b"0\0005\n", BAD * 4),
     "bytes above 127": (b"\xef\xbb\xbf05\n\xff\n", BAD * 2),
-    "lines around the longest frame": (b"".join(FREE[:50] + b"0" * n + b"\n" for n in range(4)), UNOPENED + BAD * 3),
+    "lines around the longest frame": (b"".join(RESIZE[:66] + b"0" * n + b"\n" for n in range(4)), UNOPENED + BAD * 3),
     "a frame and 5 MB behind it": (STATE + b"05" + b"0" * 5_000_000 + b"\n05\n", STATED + BAD + LIST),
     "5 MB without LF": (b"05\n" + b"x" * 5_000_000, UNOPENED + BAD),
-    "what is no frame does nothing": (STATE + b"\n05 \n" + FREE[:-1] + b"\r\n05\n", STATED + BAD * 3 + LIST),
+    "what is no frame does nothing": (STATE + b"\n05 \n" + FREE[:-1] + b"\r\n" + RESIZE[:-1] + b" \n05\n", STATED + BAD * 4 + LIST),
 }
 
 
@@ -186,7 +329,7 @@ def all_at_once(data, answers):
 
 
 def in_pieces(data, answers):
-    for size in (1, 2, 33, 50, 51, 52, 4096):
+    for size in (1, 2, 33, 66, 67, 68, 4096):
         if len(data) <= 4096 * size:
             check(pieces(cut(data, size)), answers)
 

@@ -1,10 +1,13 @@
 //! The original and Leanlantern on the same calls, with the same addresses: our arena is told the address of the original's memory.
 //!
 //!   against run SEED CALLS     random runs: all 16 residues of the base, heaps from 16 bytes to 65,536, scribbles between calls
-//!   against tilings UNITS      every tiling of heaps of up to UNITS times 8 bytes, with one more request, free or extension
+//!   against tilings UNITS      every tiling of heaps of up to UNITS times 8 bytes, with one more request, free, resize or extension
 //!   against sample SEED LINES  calls as wire frames, each followed by the original's lines, marked by '='
 //!   against bench CALLS        both on the same traces, alternating; medians as ratios
 //!   against trace NAME WHO CALLS   one side alone on one trace, for counting instructions
+//!
+//! The original has no resize. Whether ours must be granted is told by the original's holes, and what is granted is done on the original by
+//! its own grants and frees, so that every resize is compared and both sides go on with the same list.
 //!
 //! It stops at the first difference with exit status 1.
 
@@ -13,6 +16,7 @@
 mod leanlantern;
 
 use leanlantern::{Lantern, Refused};
+use linked_list_allocator::hole::HoleList;
 use linked_list_allocator::Heap;
 use std::alloc::Layout;
 use std::ptr::NonNull;
@@ -91,6 +95,10 @@ struct Counts {
     no_room: u64,
     layouts: u64,
     frees: u64,
+    resizes: u64,
+    tails: u64,
+    taken: u64,
+    stretches: u64,
     extends: u64,
     past: u64,
     lists: u64,
@@ -131,6 +139,18 @@ fn granted(heap: &mut Heap, size: u64, align: u64) -> bool {
     true
 }
 
+/// The size as the original rounds it, if the layout is valid.
+fn rounded(size: u64, align: u64) -> Option<u64> {
+    let layout = Layout::from_size_align(size as usize, align as usize).ok()?;
+    Some(HoleList::align_layout(layout).ok()?.size() as u64)
+}
+
+/// A span of at least 16 bytes is given back to the original.
+fn give_back(heap: &mut Heap, addr: u64, size: u64) {
+    let layout = Layout::from_size_align(size as usize, 1).unwrap();
+    unsafe { heap.deallocate(NonNull::new(addr as *mut u8).unwrap(), layout) };
+}
+
 /// The original and ours, opened alike.
 struct Pair<'a> {
     heap: Heap,
@@ -142,6 +162,8 @@ struct Pair<'a> {
     ours: Lantern<'a>,
     held: Vec<Held>,
     rows: (Vec<u64>, Vec<u64>),
+    /// Our arena as it was before a resize.
+    before: Vec<u8>,
 }
 
 impl<'a> Pair<'a> {
@@ -160,7 +182,8 @@ impl<'a> Pair<'a> {
         let mut heap = Heap::empty();
         unsafe { heap.init(memory.start.add(residue), named) };
         same("opening", Ok((heap.bottom() as u64, heap.size() as u64)), answer);
-        Some(Pair { heap, memory, residue, base, len, given: named, ours, held: Vec::new(), rows: (vec![0; 2049], vec![0; 2049]) })
+        let rows = (vec![0; 2049], vec![0; 2049]);
+        Some(Pair { heap, memory, residue, base, len, given: named, ours, held: Vec::new(), rows, before: Vec::new() })
     }
 
     fn original_holes(&self) -> Vec<(u64, u64)> {
@@ -190,14 +213,20 @@ impl<'a> Pair<'a> {
         }
     }
 
-    /// Lists, sums, room and readers of both.
-    fn compare(&mut self, aligns: &mut Rng, counts: &mut Counts) {
+    /// The list that both have.
+    fn compare_list(&mut self) -> Vec<(u64, u64)> {
         let holes = self.original_holes();
         let (addrs, sizes) = (&mut self.rows.0, &mut self.rows.1);
         same("list", Ok((holes.len() as u64, self.heap.free() as u64)), self.ours.list(addrs, sizes));
         for (i, hole) in holes.iter().enumerate() {
             same("hole", *hole, (addrs[i], sizes[i]));
         }
+        holes
+    }
+
+    /// Lists, sums, room and readers of both.
+    fn compare(&mut self, aligns: &mut Rng, counts: &mut Counts) {
+        let holes = self.compare_list();
         self.compare_room(1, holes.len() as u64, counts);
         self.compare_room(any_align(aligns), holes.len() as u64, counts);
         same("room: the original's holes after the tries", &holes, &self.original_holes());
@@ -295,6 +324,86 @@ impl<'a> Pair<'a> {
         same("free", Ok((rounded, self.heap.used() as u64)), self.ours.free(b.addr, b.size, b.align));
     }
 
+    /// The stretch of a held block by the original's list: the block plus the hole that touches its end, whose place is told too.
+    fn stretch(&self, i: usize, holes: &[(u64, u64)]) -> (u64, Option<usize>) {
+        let span = self.held[i].span() as u64;
+        let end = self.held[i].addr + span;
+        let behind = holes.binary_search_by_key(&end, |hole| hole.0).ok();
+        (span + behind.map_or(0, |k| holes[k].1), behind)
+    }
+
+    /// A held block gets a new size, of `to` bytes, on the original, by its own grants and frees. A tail of at least 16 bytes is given back.
+    /// Else the hole behind is taken whole, and what is left of the stretch is given back. A request finds that hole once there is none in
+    /// front of it: those are taken first, each with its own size, and given back last.
+    fn refit(&mut self, i: usize, to: u64, holes: &[(u64, u64)], counts: &mut Counts) {
+        let (addr, old) = (self.held[i].addr, self.held[i].span() as u64);
+        let (stretch, behind) = self.stretch(i, holes);
+        if to + 16 <= old {
+            give_back(&mut self.heap, addr + to, old - to);
+            counts.tails += 1;
+        } else if to != old {
+            let front = behind.expect("a hole behind the block");
+            for hole in &holes[..=front] {
+                let taken = asked(&mut self.heap, hole.1, 1).map(|(p, _)| p.as_ptr() as u64);
+                if taken != Some(hole.0) {
+                    differ("resize: a hole of the original", taken, hole)
+                }
+            }
+            if stretch != to {
+                give_back(&mut self.heap, addr + to, stretch - to);
+            }
+            for hole in holes[..front].iter().rev() {
+                give_back(&mut self.heap, hole.0, hole.1);
+            }
+            counts.taken += 1;
+        }
+    }
+
+    /// Refused, our words and bytes stay. Granted, both sides have the same list and used, the bytes common to both sizes stay, and so does
+    /// every byte of our arena that is in no head.
+    fn resize(&mut self, i: usize, new: u64, counts: &mut Counts) {
+        counts.calls += 1;
+        let b = self.held[i];
+        let holes = self.original_holes();
+        let (stretch, _) = self.stretch(i, &holes);
+        let words = self.ours.words;
+        self.before.clear();
+        self.before.extend_from_slice(self.ours.arena);
+        let answer = self.ours.resize(b.addr, b.size, b.align, new);
+        let to = match rounded(new, b.align) {
+            Some(to) if to == stretch || to + 16 <= stretch => to,
+            due => {
+                let (number, count) = if due.is_none() { (6, &mut counts.layouts) } else { (10, &mut counts.stretches) };
+                same("resize refused", Err(Refused { number, count: 0 }), answer);
+                same("resize refused: words", words, self.ours.words);
+                if self.before[..] != self.ours.arena[..] {
+                    differ("resize refused: a byte changed", b.addr, new)
+                }
+                *count += 1;
+                return;
+            }
+        };
+        self.refit(i, to, &holes, counts);
+        same("resize", Ok((to, self.heap.used() as u64)), answer);
+        let (at, common) = ((b.addr - self.base) as usize, b.span().min(to as usize));
+        if self.memory.bytes(self.residue + at, common).iter().any(|x| *x != b.stamp) {
+            differ("resize: the original changed a common byte", b.addr, new)
+        }
+        if self.ours.arena[at..at + common].iter().any(|x| *x != b.stamp) {
+            differ("resize: a common byte changed", b.addr, new)
+        }
+        for (addr, _) in self.compare_list() {
+            let at = (addr - self.base) as usize;
+            self.before[at..at + 16].copy_from_slice(&self.ours.arena[at..at + 16]);
+        }
+        if self.before[..] != self.ours.arena[..] {
+            differ("resize: a byte in no head changed", b.addr, new)
+        }
+        self.held[i].size = new;
+        self.stamp(self.held[i]);
+        counts.resizes += 1;
+    }
+
     fn extend(&mut self, by: usize, counts: &mut Counts) {
         counts.calls += 1;
         if self.given + by > self.len {
@@ -343,7 +452,19 @@ fn random_size(rng: &mut Rng, len: u64) -> u64 {
     }
 }
 
-/// The largest heap with as many holes as there can be: 4,096 blocks of 16 bytes, every other one given back.
+/// A new size for a block of `span` bytes: near it, near its stretch, below it, somewhat above, or any.
+fn new_size(rng: &mut Rng, span: u64, stretch: u64, len: u64) -> u64 {
+    match rng.below(8) {
+        0 => random_size(rng, len),
+        1 | 2 => (span + 32).saturating_sub(rng.below(64)),
+        3 => (stretch + 16).saturating_sub(rng.below(48)),
+        4 | 5 => rng.below(span + 1),
+        _ => rng.below(stretch.min(span + 200) + 24),
+    }
+}
+
+/// The largest heap with as many holes as there can be: 4,096 blocks of 16 bytes, every other one given back. The blocks that stay are
+/// followed by a hole of 16, all but the last; some of them, far along the list too, take it and give it back.
 fn most_holes(memory: &mut Memory, space: &mut [u8], aligns: &mut Rng, counts: &mut Counts) {
     let mut pair = Pair::open(memory, space, 0, ARENA).unwrap();
     for i in 0..ARENA / 16 {
@@ -352,6 +473,12 @@ fn most_holes(memory: &mut Memory, space: &mut [u8], aligns: &mut Rng, counts: &
     for k in 0..ARENA as u64 / 32 {
         let i = pair.held.iter().position(|b| b.addr == pair.base + 32 * k).unwrap();
         pair.free(i, counts);
+    }
+    for k in [0, 1, 1000, 2046, 2047] {
+        let i = pair.held.iter().position(|b| b.addr == pair.base + 32 * k + 16).unwrap();
+        for new in [24, 32, 24, 0] {
+            pair.resize(i, new, counts);
+        }
     }
     pair.compare(aligns, counts);
     pair.compare_held(counts);
@@ -385,7 +512,7 @@ fn run(seed: u64, calls: u64) -> Counts {
         let turns = 20 + rng.below(if len < 1_000 { 200 } else { 1_500 });
         let keep = rng.below(90);
         for turn in 0..turns {
-            match rng.below(100) {
+            match rng.below(120) {
                 0..=3 => {
                     let by = if rng.one_in(3) { rng.below(len as u64 + 40) } else { rng.below(40) };
                     pair.extend(by as usize, &mut counts)
@@ -393,6 +520,12 @@ fn run(seed: u64, calls: u64) -> Counts {
                 n if n < 4 + keep && !pair.held.is_empty() => {
                     let i = rng.below(pair.held.len() as u64) as usize;
                     pair.free(i, &mut counts)
+                }
+                100.. if !pair.held.is_empty() => {
+                    let i = rng.below(pair.held.len() as u64) as usize;
+                    let (stretch, _) = pair.stretch(i, &pair.original_holes());
+                    let new = new_size(&mut rng, pair.held[i].span() as u64, stretch, len as u64);
+                    pair.resize(i, new, &mut counts)
                 }
                 _ => {
                     let (size, align, stamp) = (random_size(&mut rng, len as u64), random_align(&mut rng), rng.next() as u8);
@@ -478,6 +611,10 @@ fn exhaustive(most: usize) -> Counts {
                 }
                 for i in 0..tiling.iter().filter(|t| !t.1).count() {
                     build(&mut memory, &mut space[..len], &mut counts, &mut |pair, counts| pair.free(i, counts));
+                    // every rounded size, to 8 bytes more than the heap has
+                    for n in 2..=units as u64 + 1 {
+                        build(&mut memory, &mut space[..len], &mut counts, &mut |pair, counts| pair.resize(i, 8 * n - n % 8, counts));
+                    }
                 }
                 for by in 0..=40 {
                     build(&mut memory, &mut space[..len], &mut counts, &mut |pair, counts| {
@@ -792,7 +929,7 @@ fn main() {
         _ => panic!("usage: against run SEED CALLS | tilings UNITS | sample SEED LINES | bench CALLS | trace NAME WHO CALLS"),
     };
     println!(
-        "agree: {} calls in {} runs ({} grants, {} without room, {} bad layouts, {} frees, {} extensions, {} past the arena); {} lists with {} holes, at most {}; {} room reports; {} held bytes",
+        "agree: {} calls in {} runs ({} grants, {} without room, {} bad layouts, {} frees, {} extensions, {} past the arena, {} resizes, {} without stretch); {} resizes gave back a tail, {} took a hole; {} lists with {} holes, at most {}; {} room reports; {} held bytes",
         counts.calls,
         counts.runs,
         counts.grants,
@@ -801,6 +938,10 @@ fn main() {
         counts.frees,
         counts.extends,
         counts.past,
+        counts.resizes,
+        counts.stretches,
+        counts.tails,
+        counts.taken,
         counts.lists,
         counts.holes,
         counts.most,

@@ -1,7 +1,7 @@
 #!/usr/bin/env bash
 # The original and Leanlantern on the same calls, on shared ground: every answer, hole list, room report, reader and held byte must
-# agree. Then the same comparison with a planted fault in a copy of the original, or of the bindings through which ours is asked; it must
-# report each.
+# agree. A resize, which the original does not have, is done on it by its own grants and frees. Then the same comparison with a planted
+# fault in a copy of the original, or of the bindings through which ours is asked; it must report each.
 #
 # usage: tests/against/run.sh [--short] [--seed N] [ORIGINAL-FOLDER]     (default folder: ../shared/docs/src beside the repository)
 set -euo pipefail
@@ -83,10 +83,10 @@ must_report() {
     reported "$1" '' "${@:3}"
 }
 
-# usage: must_report_room NAME SED-EXPRESSION MODE NUMBER..   (the same of our room report, at a true alignment)
-must_report_room() {
-    build_faulty_ours "$1" "$2"
-    reported "$1" 'room at [0-9]' "${@:3}"
+# usage: must_report_ours NAME WHAT SED-EXPRESSION MODE NUMBER..   (the same of ours; WHAT: how the difference begins)
+must_report_ours() {
+    build_faulty_ours "$1" "$3"
+    reported "$1" "$2" "${@:4}"
 }
 
 must_report no_back_of_16 's/if back_padding_end <= hole_end/if back_padding_end < hole_end/' tilings 7
@@ -94,6 +94,13 @@ must_report front_of_8 's/hole_addr_u8.wrapping_add(HoleList::min_size())/hole_a
 must_report joins_before_only 's/^            (cursor, 2)$/            (cursor, 1)/' tilings 7
 must_report extends_from_17 's/if extend_by < minimum_extend/if extend_by <= minimum_extend/' tilings 7
 must_report back_of_16_in_runs 's/if back_padding_end <= hole_end/if back_padding_end < hole_end/' run "$seed" 100000
-must_report_room room_forgets_alignment 's/\(c::lantern_room(.*\), align, /\1, if align.is_power_of_two() { 1 } else { align }, /' tilings 7
-must_report_room room_16_less '/c::lantern_room(/a answer[0] = answer[0].saturating_sub(16);' tilings 7
+# the room report, at a true alignment
+must_report_ours room_forgets_alignment 'room at [0-9]' \
+    's/\(c::lantern_room(.*\), align, /\1, if align.is_power_of_two() { 1 } else { align }, /' tilings 7
+must_report_ours room_16_less 'room at [0-9]' '/c::lantern_room(/a answer[0] = answer[0].saturating_sub(16);' tilings 7
+# a resize: its new size, refusal 10, and the bytes that stay
+must_report_ours resize_16_less 'resize' 's/\(c::lantern_resize(.*\), new, /\1, new.saturating_sub(16), /' tilings 7
+must_report_ours resize_never_refused 'resize refused' $'/c::lantern_resize(/{n;a let n = if n == 10 { 0 } else { n };\n}' tilings 7
+must_report_ours resize_changes_a_byte 'resize: a common byte' \
+    $'/c::lantern_resize(/{n;a if n == 0 { self.arena[(addr - self.words[0]) as usize] ^= 1; }\n}' tilings 7
 echo "against: no difference; every planted fault reported"

@@ -3,18 +3,17 @@ use mathlib.Core.Bool.{cond}
 use mathlib.Core.List.{List}
 use Prim.Native.Nat.{ℕ, _+_}
 use lib.Dec.{eqb}
-use Rattle.rules.specs.Kinds.{placeOf, isNone, bytesTo, same}
+use Rattle.rules.specs.Kinds.{isNone}
 use Rattle.rules.specs.Sound.{size, holes}
 use Rattle.rules.specs.Allocate.{find}
 use Rattle.rules.specs.Calls.{Outcome, taken}
 use Rattle.rules.specs.Outcome.{After, leaves}
-use Rattle.rules.specs.declared.Addr.{Addr}
 use Rattle.rules.specs.declared.Place.{Place}
 use Rattle.rules.specs.declared.Heap.{Heap}
 use Rattle.rules.specs.declared.Write.{Write}
 use Rattle.rules.specs.declared.Refusal.{Refusal}
 use Rattle.rules.specs.declared.Refusal.the-variants.{NotSound, NoRoom}
-use Rattle.rules.specs.Inner.{write, nothing, sifted}
+use Rattle.rules.specs.Inner.{sifted}
 use Rattle.walk.specs.declared.Search.{Search}
 use Rattle.walk.specs.declared.Search.the-variants as search
 use Rattle.joining.specs.declared.Relinked.{Relinked}
@@ -40,14 +39,6 @@ noFit h (search.Nowhere count total) = cond (eqb (total + h .used) (size h)) (No
 noFit h search.Bad = NotSound
 
 -- ---- a hole is used
-
--- what remains between two addresses, as a head to be written
-unfoldable pub remainder : Addr → Addr → Addr → Place → Write
-remainder base lo hi next = cond (same lo hi) nothing (write (placeOf base lo) (bytesTo lo hi) next)
-
--- its place, or that of the next hole
-unfoldable pub leadsTo : Write → Place → Place
-leadsTo w next = cond (isNone (w .at)) next (w .at)
 
 -- what remains in front stands where the hole stood, or the hole before leads to what comes behind
 unfoldable pub splitTo : Place → List ℕ → Place → Write → Write → Place → Relinked

@@ -1,12 +1,11 @@
 // The hole that an allocation found, used and split.
-use hole::nothing;
-use hole::place_of;
 use joining::Relinked;
+use joining::leads;
 use joining::link;
+use joining::remains;
 use rules::Addr;
 use rules::Answer;
 use rules::Decided;
-use rules::Head;
 use rules::Heap;
 use rules::NONE;
 use rules::Place;
@@ -16,42 +15,12 @@ use walk::Fit;
 use walk::Search;
 use walk::candidate;
 ghost use mathlib.Core.Path.{_≡_};
-ghost use Prim.Native.Nat.{_≤_};
 ghost use Rattle.rules.specs.Sound.{holes};
 ghost use Rattle.rules.specs.Inner.{Inside, Fulfils};
 ghost use Rattle.walk.specs.Settled.{Asked};
 ghost use Rattle.walk.specs.Walk.{searchOf};
 ghost use Rattle.walk.specs.Settled.{Settled};
-ghost use Rattle.allocate.specs.Granted.{remainder, leadsTo, splitTo, granted};
-
-// What remains between two addresses becomes a hole that leads to `next`; between equal ones nothing
-// remains.
-fn remains(base: Addr, lo: Addr, hi: Addr, next: Place) -> Write
-    requires { ⌜ (base .0 ≤ lo .0) × (lo .0 ≤ hi .0) ⌝ }
-    ensures { λ r. ⌜ r ≡ remainder base lo hi next ⌝ }
-{
-    if lo.0 == hi.0 {
-        return nothing();
-    }
-    Write {
-        at: place_of(base, lo),
-        head: Head {
-            size: hi.0 - lo.0,
-            next,
-        },
-    }
-}
-
-// The place of what remains; where nothing does, that of the next hole.
-fn leads(w: Write, next: Place) -> Place
-    ensures { λ r. ⌜ r ≡ leadsTo w next ⌝ }
-{
-    let at = w.at;
-    if at.0 == NONE {
-        return next;
-    }
-    at
-}
+ghost use Rattle.allocate.specs.Granted.{splitTo, granted};
 
 // What remains in front of a block stands where the hole stood; where nothing does, the hole before leads
 // to what comes behind the block.

@@ -22,6 +22,7 @@ fn refusal_numbers(r: Refusal) -> Told
         Refusal::NoRoom { holes } => Told(7, 0, holes),
         Refusal::BadSpan => Told(8, 0, 0),
         Refusal::PastArena => Told(9, 0, 0),
+        Refusal::BadStretch => Told(10, 0, 0),
     }
 }
 
@@ -33,6 +34,7 @@ pub fn answer_numbers(a: Answer) -> Told
         Answer::Opened { bottom, size } => Told(0, bottom.0, size),
         Answer::Allocated { addr, count } => Told(0, addr.0, count),
         Answer::Freed { rounded, used } => Told(0, rounded, used),
+        Answer::Resized { rounded, used } => Told(0, rounded, used),
         Answer::Extended { size, pending } => Told(0, size, pending),
         Answer::Listed { holes, free } => Told(0, holes, free),
         Answer::Room { largest, holes } => Told(0, largest, holes),

@@ -1,5 +1,5 @@
-// The exports that may change the heap: the calls of crates open, allocate, free and extend, each decided
-// on the heap that the words say.
+// The exports that may change the heap: the calls of crates open, allocate, free, resize and extend, each
+// decided on the heap that the words say.
 use crate::words::load;
 use crate::words::show;
 use hole::arena_len;
@@ -67,6 +67,23 @@ pub extern "C" fn lantern_free(
     ensures { λ r. ⌜ Shows (after (Calls.free (addr at) size align) (heapOf (now (heap .entry))) (now (arena .entry))) r (now (heap .exit)) (now (answer .exit)) (now (arena .exit)) ⌝ }
 {
     let d = free::decide(load(heap), arena, Addr(at), size, align);
+    carry_out(heap, arena, answer, d)
+}
+
+// Lets the block at the address `at` grow or shrink where it lies. New rounded size, used.
+#[no_mangle]
+pub extern "C" fn lantern_resize(
+    heap: &mut [u64; 7],
+    arena: &mut [u8],
+    at: u64,
+    old: u64,
+    align: u64,
+    new: u64,
+    answer: &mut [u64; 2],
+) -> u64
+    ensures { λ r. ⌜ Shows (after (Calls.resize (addr at) old align new) (heapOf (now (heap .entry))) (now (arena .entry))) r (now (heap .exit)) (now (answer .exit)) (now (arena .exit)) ⌝ }
+{
+    let d = resize::decide(load(heap), arena, Addr(at), old, align, new);
     carry_out(heap, arena, answer, d)
 }
 

@@ -1,29 +1,31 @@
--- What holds of each call of a behaviour that meets the statements: a refusal comes of no other outcome, the tests are made, and a grant
--- lies where demand 2 says. Assumes nothing.
+-- What holds of each call of a behaviour that meets the statements: a refusal comes of no other outcome, the tests are made, a grant lies
+-- where demand 2 says, and a resize leaves what its statement says. Assumes nothing.
 use mathlib.Core.Path.{_≡_, sym, ap, subst, _∙_}
-use mathlib.Core.List.{List, _∷_, _++_}
+use mathlib.Core.List.{List, _∷_, _++_, List·Memᴰ}
 use Prim.Native.Nat.{ℕ, _+_, _-_, _≤_}
 use native.Mathlib.Omega.{arith}
-use lib.ListN.{length}
+use lib.ListN.{length, getD}
 use Rattle.rules.specs.declared.Addr.{Addr}
 use Rattle.rules.specs.declared.Hole.{Hole}
 use Rattle.rules.specs.declared.Heap.{Heap}
 use Rattle.rules.specs.declared.Refusal.{Refusal}
 use Rattle.rules.specs.declared.Refusal.the-variants.{AlreadyOpened, OtherLength, NotSound}
+use Rattle.rules.specs.declared.Answer.{Answer}
 use Rattle.rules.specs.declared.Answer.the-variants.{Allocated, Refused}
 use Rattle.rules.specs.Kinds.{addr}
 use Rattle.rules.specs.Sound.{holes}
 use Rattle.rules.specs.Allocate.{rounded}
 use Rattle.rules.specs.Changes.{Report}
-use Rattle.rules.specs.Calls.{Call, opening, change, report, allocate, list, Outcome, refused, told, done, accepted}
+use Rattle.rules.specs.Calls.{Call, opening, change, report, allocate, resize, list, Outcome, refused, told, done, accepted}
 use Rattle.rules.specs.Outcome.{outcome}
-use Rattle.rules.specs.InWords.{SoundHoles, Rounds, sum, Lies, RoomAt}
+use Rattle.rules.specs.InWords.{SoundHoles, Rounds, Valid, sum, Lies, RoomAt, Within, NoLayout, NoSpan, NoStretch}
 use Rattle.rules.specs.Runs.{Fits}
 use Rattle.rules.specs.Behaviour.{Behaviour, ours}
-use Rattle.rules.specs.Statements.{Granted, Statements, refusalsOf}
-use Rattle.demands.specs.Frauds.{Grant, UsedHole}
+use Rattle.rules.specs.Statements.{Granted, Refitted, Statements, refusalsOf}
+use Rattle.demands.specs.Frauds.{Grant, UsedHole, Resizing, left, holesBefore, holesAfter}
 use Rattle.rules.proofs.Cases.{by-eq}
 use Rattle.rules.proofs.Passes.{by-decided, Plain, by-change}
+use Rattle.rules.proofs.SoundWords.{rounds-rounded}
 use Rattle.rules.proofs.TestWords.{no-layout}
 use Rattle.rules.proofs.Statements.{statements}
 use Rattle.demands.proofs.OneList.{one-place}
@@ -155,3 +157,58 @@ module _ (b : Behaviour) (sb : Statements b) where
         one-place (g .heap) ks (d .front) (u .front) (d .back) (u .back) (d .hole) (u .hole) (g .at) (d .sound) (d .one) (u .one)
         (d .lies .from) (omega (arith, d .lies .to, d .rounds .sixteen)) (u .inside .0) (u .inside .1) in
         (front, hole)
+
+  -- ---- a resize
+
+  module _ (g : Resizing b) where
+    abbrev call : Call
+    call = resize (g .at) (g .size) (g .align) (g .newSize)
+
+    -- the block resized leaves this heap and these holes
+    abbrev Leaves : Heap → List Hole → Type 0
+    Leaves h ks = Refitted (g .heap) (holesBefore b g) (g .at .0) (g .old) (g .new) (g .heap .used - g .old + g .new) h ks
+
+    -- every byte that lies in no head of them is what it was
+    abbrev Stay : Heap → List Hole → Type 0
+    Stay h ks =
+        (i : ℕ) → ((k : Hole) → List·Memᴰ k ks → Within (k .addr .0 - h .base .0) 16 i → ⊥)
+        → getD (left b g .arena) i 0 ≡ getD (g .arena) i 0
+
+    leaves-of : (a : Answer) (h : Heap) (ks : List Hole) → b .outcome call (g .heap) (g .arena) ≡ done a h ks → Leaves h ks
+        → Leaves (left b g .heap) (holesAfter b g) × Stay (left b g .heap) (holesAfter b g)
+    leaves-of a h ks e is =
+        let k = sb .memory call (g .heap) (g .arena) a h ks (g .fits) e in
+        let new : holesAfter b g ≡ ks = ap (λ (f : Heap). b .holes f (left b g .arena)) (k .1) ∙ k .3 in
+        (rw (new, k .1) is, rw (new, k .1) (k .4))
+
+    -- so nothing stood against it, and it leaves what is said of it
+    pub record Refitting : Type 0 where
+      pub span : NoSpan (g .heap) (holesBefore b g) (g .at .0) (g .old) (g .align) → ⊥
+      pub stretch : NoStretch (holesBefore b g) (g .at .0) (g .old) (g .new) → ⊥
+      pub leaves : Leaves (left b g .heap) (holesAfter b g)
+      pub stay : Stay (left b g .heap) (holesAfter b g)
+
+    pub refitting : Refitting
+    refitting =
+        let h = g .heap in
+        let m = g .arena in
+        let d = sb .refusalsExactly call h m (g .fits) in
+        let never : (y : Refusal) → b .outcome call h m ≡ refused y → ⊥ =
+        λ y p. let q = sb .refusalsKeep call h m noRows y p .0 in let e = g .answer in let z : _≡_ {A = ℕ} 0 1 = cc in omega arith in
+        entry b b sb sb h m
+        (λ y p q. absurd (never y (p _ _ d)))
+        (λ p q good good′ same.
+        let rows = p _ _ d in
+        let old : NoLayout (g .size) (g .align) → ⊥ = λ t. never _ (rows .0 t) in
+        let new : NoLayout (g .newSize) (g .align) → ⊥ = λ t. never _ (rows .1 old .0 t) in
+        let free : ((r : ℕ) × Rounds (g .size) r × NoSpan h (holesBefore b g) (g .at .0) r (g .align)) → ⊥ =
+        λ t. never _ (rows .1 old .1 new .0 t) in
+        let span : NoSpan h (holesBefore b g) (g .at .0) (g .old) (g .align) → ⊥ = λ t. free (g .old, g .rounds, t) in
+        let stretch : NoStretch (holesBefore b g) (g .at .0) (g .old) (g .new) → ⊥ =
+        λ t. never _ (rows .1 old .1 new .1 free .0 (g .old, g .rounds, (g .new, g .newRounds, t))) in
+        let v : Valid (g .size) (g .align) (g .old) = rw (rounds-rounded (g .rounds)) (valid (g .size) (g .align) (g .fits .2) old) in
+        let w : Valid (g .newSize) (g .align) (g .new) =
+        rw (rounds-rounded (g .newRounds)) (valid (g .newSize) (g .align) (g .fits .2) new) in
+        let (f, ks, e, u, is) = sb .resizeDoes h m (g .at) (g .size) (g .align) (g .newSize) (g .old) (g .new) good v w span stretch in
+        let (leaves, stay) = leaves-of _ f ks e is in
+        record { span = span; stretch = stretch; leaves = leaves; stay = stay })

@@ -1,26 +1,28 @@
 -- Behaviours that commit a fraud, made as simply as they can be: most give one answer, whatever they are asked. What their frauds lean on.
 -- Assumes nothing.
 use mathlib.Core.Path.{_≡_, refl}
+use mathlib.Core.Bool.{cond}
 use mathlib.Core.List.{List, [], _∷_, List·Memᴰ·head}
 use mathlib.Core.Logic.{inl}
 use Prim.Native.Nat.{ℕ, _+_, _≤_, _%_}
 use native.Mathlib.Omega.{arith}
+use lib.Dec.{eqb}
 use Rattle.rules.specs.declared.Hole.{Hole}
 use Rattle.rules.specs.declared.Heap.{Heap}
 use Rattle.rules.specs.declared.Answer.{Answer}
-use Rattle.rules.specs.declared.Answer.the-variants.{Allocated, Freed}
+use Rattle.rules.specs.declared.Answer.the-variants.{Allocated, Freed, Resized}
 use Rattle.rules.specs.Kinds.{addr}
 use Rattle.rules.specs.Holes.{hole}
 use Rattle.rules.specs.Sound.{unopened}
 use Rattle.rules.specs.Changes.{Change}
-use Rattle.rules.specs.Calls.{Call, opening, change, report, extend}
+use Rattle.rules.specs.Calls.{Call, opening, change, report, resize, extend}
 use Rattle.rules.specs.Outcome.{After}
 use Rattle.rules.specs.InWords.{Sound, Rounds, RoomAt, Within}
 use Rattle.rules.specs.Behaviour.{Behaviour, ours}
 use Rattle.rules.proofs.SoundWords.{sound-words}
-use Rattle.demands.specs.Frauds.{Grant, UsedHole}
+use Rattle.demands.specs.Frauds.{Grant, UsedHole, Resizing}
 use Rattle.demands.proofs.Premises.{half, halves}
-use Rattle.demands.proofs.Shown.{shown}
+use Rattle.demands.proofs.Shown.{stage, shown}
 
 -- ours, with another heap before an opening, other holes and another end of each call
 abbrev bent : Heap → (Heap → List ℕ → List Hole) → (Call → Heap → List ℕ → After) → Behaviour
@@ -86,11 +88,31 @@ past (change (Change.free x s align)) h m =
           };
       arena = m;
     }
+past (change (Change.resize x s align n)) h m = ours .after (resize x s align n) h m
 past (change (Change.extend by)) h m = ours .after (extend by) h m
 past (report r) h m = ours .after (report r) h m
 
 abbrev pub passing : Behaviour
 passing = bent unopened (λ h m. []) past
+
+-- the heap that is half free, with another number of bytes held
+abbrev holding : ℕ → Heap
+holding used =
+    record {
+      base = half .base;
+      len = half .len;
+      bottom = half .bottom;
+      top = half .top;
+      first = half .first;
+      pending = half .pending;
+      used = used;
+    }
+
+-- one answer to all calls: its held block has q bytes. These holes are left then, which used tells from the two
+abbrev pub refits : ℕ → List Hole → Behaviour
+refits q js =
+    bent unopened (λ h m. cond (eqb (h .used) 16) halves js)
+    (λ c h m. record { answer = Resized q q; heap = holding q; arena = m })
 
 -- ---- what the frauds lean on
 
@@ -125,6 +147,27 @@ low-room = (
 -- a size that is its own rounded size
 pub round : (s : ℕ) → s % 8 ≡ 0 → 16 ≤ s → Rounds s s
 round s e l = record { multiple = e; covers = omega arith; sixteen = l; least = λ y e c l. c }
+
+-- the held block resized to q bytes
+abbrev pub refit : {b : Behaviour} (q : ℕ) → q % 8 ≡ 0 → 16 ≤ q → q ≤ 40
+    → b .after (resize (addr 0x1020) 16 16 q) half stage .answer ≡ Resized q q → Resizing b
+refit q e l t a =
+    record {
+      at = addr 0x1020;
+      size = 16;
+      align = 16;
+      newSize = q;
+      heap = half;
+      arena = stage;
+      old = 16;
+      new = q;
+      rounds = round 16 refl (omega arith);
+      newRounds = round q e l;
+      said = q;
+      used = q;
+      fits = omega (arith, t);
+      answer = a;
+    }
 
 pub halves-sound : Sound half halves
 halves-sound = rw (shown .two) at (sound-words half _ (shown .good))

@@ -7,9 +7,9 @@ use lib.ListN.{length}
 use Rattle.rules.specs.declared.Hole.{Hole}
 use Rattle.rules.specs.declared.Heap.{Heap}
 use Rattle.rules.specs.declared.Refusal.{Refusal}
-use Rattle.rules.specs.declared.Refusal.the-variants.{BadOpening, AlreadyOpened, Unopened, OtherLength, NotSound, BadLayout, NoRoom, BadSpan, PastArena}
+use Rattle.rules.specs.declared.Refusal.the-variants.{BadOpening, AlreadyOpened, Unopened, OtherLength, NotSound, BadLayout, NoRoom, BadSpan, PastArena, BadStretch}
 use Rattle.rules.specs.declared.Answer.{Answer}
-use Rattle.rules.specs.declared.Answer.the-variants.{Opened, Allocated, Freed, Extended, Listed, Room, Refused}
+use Rattle.rules.specs.declared.Answer.the-variants.{Opened, Allocated, Freed, Resized, Extended, Listed, Room, Refused}
 use Rattle.rules.specs.Kinds.{addr, place}
 use Rattle.rules.specs.Changes.{Report}
 use Rattle.rules.specs.Calls.{Call, opening, change, report, list, room, Outcome, refused, told, done}
@@ -38,11 +38,13 @@ module _ (b e : Behaviour) where
   refusal-same p q (NoRoom n) = p .seven n ∙ sym (q .seven n)
   refusal-same p q BadSpan = p .eight ∙ sym (q .eight)
   refusal-same p q PastArena = p .nine ∙ sym (q .nine)
+  refusal-same p q BadStretch = p .ten ∙ sym (q .ten)
 
   answer-same : Statements b → Statements e → (a : Answer) → b .answerNumbers a ≡ e .answerNumbers a
   answer-same p q (Opened a n) = p .answerNumbers .opens a n ∙ sym (q .answerNumbers .opens a n)
   answer-same p q (Allocated a n) = p .answerNumbers .allocates a n ∙ sym (q .answerNumbers .allocates a n)
   answer-same p q (Freed x y) = p .answerNumbers .frees x y ∙ sym (q .answerNumbers .frees x y)
+  answer-same p q (Resized x y) = p .answerNumbers .resizes x y ∙ sym (q .answerNumbers .resizes x y)
   answer-same p q (Extended x y) = p .answerNumbers .extends x y ∙ sym (q .answerNumbers .extends x y)
   answer-same p q (Listed x y) = p .answerNumbers .lists x y ∙ sym (q .answerNumbers .lists x y)
   answer-same p q (Room x y) = p .answerNumbers .reports x y ∙ sym (q .answerNumbers .reports x y)

@@ -3,13 +3,13 @@
 use mathlib.Core.Path.{_≡_, refl, sym, ap, _∙_}
 use mathlib.Core.List.{List, [], _∷_, List·Memᴰ, List·Memᴰ·head, List·Memᴰ·tail, List·Memᴰ·not-nil, List·Memᴰ·cases-cons, Memᴰ·append-right}
 use mathlib.Core.Logic.{inl, inr, ⊎-elim}
-use Prim.Native.Nat.{ℕ, _+_}
+use Prim.Native.Nat.{ℕ, _+_, _-_, _≤_}
 use native.Mathlib.Omega.{arith}
-use lib.ListN.{length, getD}
+use lib.ListN.{length, getD, getD-replicate}
 use Rattle.rules.specs.declared.Addr.{Addr}
 use Rattle.rules.specs.declared.Hole.{Hole}
-use Rattle.rules.specs.declared.Refusal.the-variants.{OtherLength, NotSound}
-use Rattle.rules.specs.declared.Answer.the-variants.{Opened, Allocated, Freed, Extended, Listed, Room, Refused}
+use Rattle.rules.specs.declared.Refusal.the-variants.{OtherLength, NotSound, BadStretch}
+use Rattle.rules.specs.declared.Answer.the-variants.{Opened, Allocated, Freed, Resized, Extended, Listed, Room, Refused}
 use Rattle.rules.specs.Kinds.{addr}
 use Rattle.rules.specs.Holes.{hole}
 use Rattle.rules.specs.Sound.{unopened}
@@ -17,14 +17,15 @@ use Rattle.rules.specs.Calls.{allocate, extend, list, room}
 use Rattle.rules.specs.Outcome.{After}
 use Rattle.rules.specs.Behaviour.{Behaviour}
 use Rattle.rules.specs.Statements.{Statements}
-use Rattle.demands.specs.Frauds.{Caught, Frauds}
+use Rattle.demands.specs.Frauds.{Caught, Frauds, left}
+use Rattle.rules.proofs.Cases.{by-le}
 use Rattle.rules.proofs.SoundWords.{rounds-rounded}
-use Rattle.demands.proofs.Premises.{half, halves}
+use Rattle.demands.proofs.Premises.{noise, half, halves}
 use Rattle.demands.proofs.Settles.{noRows}
 use Rattle.demands.proofs.Determined.{by-outcome}
-use Rattle.demands.proofs.Caught.{refused-of, not-swapped, tested, granting, used-one}
-use Rattle.demands.proofs.Culprits.{answering, leaving, writing, allBelow, early, passing, granted, uses-low, low-room, round, halves-sound}
-use Rattle.demands.proofs.Shown.{stage, stage-bytes, more, opens, shown, does, says, asked, askedMore, two, askedFree, saysFreed, empties, one, grantsAgain, saysOpen}
+use Rattle.demands.proofs.Caught.{refused-of, not-swapped, tested, granting, used-one, refitting}
+use Rattle.demands.proofs.Culprits.{answering, leaving, writing, allBelow, early, passing, refits, granted, uses-low, low-room, round, refit, halves-sound}
+use Rattle.demands.proofs.Shown.{stage, stage-bytes, more, opens, shown, does, says, asked, askedMore, two, askedFree, saysFreed, empties, one, grantsAgain, growing, askedGrowing, saysResized, saysOpen}
 
 -- a fraud, with one that commits it
 shut : {fraud : Behaviour → Type 0} (culprit : Behaviour) → fraud culprit → ((b : Behaviour) → fraud b → Statements b → ⊥) → Caught fraud
@@ -192,6 +193,89 @@ frauds =
           (λ e. let z : _≡_ {A = ℕ} 24 64 = ap (λ (k : Hole). k .size) e in omega (arith, z))
           (λ d. List·Memᴰ·not-nil d)
           (List·Memᴰ·cases-cons q));
+      resizeMoves =
+          shut (refits 24 (hole (addr 0x1020) 40 ∷ [])) (
+            refit 24 refl (omega arith) (omega arith) refl,
+            0x1020,
+            (omega arith, omega arith),
+            (hole (addr 0x1020) 40, List·Memᴰ·head refl, omega arith),
+          )
+          (λ b (g, y, both, v) sb. refitting b sb g .leaves .vacant y v .1 (both .1));
+      resizeLeavesEight =
+          shut (refits 32 (hole (addr 0x1008) 24 ∷ hole (addr 0x1040) 8 ∷ [])) (
+            refit 32 refl (omega arith) (omega arith) refl,
+            0x1048,
+            inl (hole (addr 0x1030) 24, List·Memᴰ·tail (List·Memᴰ·head refl), refl, refl),
+            refl,
+          )
+          (λ b (g, e, ends, l) sb.
+          refitting b sb g .stretch (e, ends, (λ gap. ⊎-elim (λ p. omega (arith, l, p)) (λ p. omega (arith, l, p)) gap)));
+      resizeTakesBefore =
+          shut (refits 40 (hole (addr 0x1030) 24 ∷ [])) (
+            refit 40 refl (omega arith) (omega arith) refl,
+            0x1008,
+            omega arith,
+            (hole (addr 0x1008) 24, List·Memᴰ·head refl, omega arith),
+            (λ (k, in′, w).
+                ⊎-elim
+                (λ e. let z : k .addr .0 ≡ 0x1030 = ap (λ (j : Hole). j .addr .0) e in omega (arith, z, w .0))
+                (λ d. List·Memᴰ·not-nil d)
+                (List·Memᴰ·cases-cons in′)),
+          )
+          (λ b (g, y, l, v, n) sb. n (refitting b sb g .leaves .becomes-free y (inl v) (λ w. omega (arith, l, w .0))));
+      resizeForgetsUsed =
+          shut (answering halves (Resized 40 40)) (λ x s align n q u h m asks e. refl)
+          (λ b f sb.
+          let p = f (addr 0x1020) 16 16 40 40 40 half stage (askedGrowing b sb) (saysResized b sb) in
+          let q = ap (λ (x : After). x .heap .used) (does b sb growing half (omega arith)) in
+          omega (arith, p, q, shown .larger));
+      resizeKeepsEaten =
+          shut (refits 40 halves) (
+            refit 40 refl (omega arith) (omega arith) refl,
+            hole (addr 0x1030) 24,
+            List·Memᴰ·tail (List·Memᴰ·head refl),
+            refl,
+            omega arith,
+            List·Memᴰ·tail (List·Memᴰ·head refl),
+          )
+          (λ b (g, k, was, e, l, in′) sb.
+          let d = refitting b sb g .leaves in
+          let z = d .sound .1 .each k in′ .sixteen in
+          d .vacant (k .addr .0) (k, in′, (omega arith, omega (arith, z))) .1 (omega (arith, e), omega (arith, e, l)));
+      resizeRefusesGrowth =
+          shut (answering halves (Refused BadStretch)) (λ x s align n r q h m asks old new l. (BadStretch, refl))
+          (λ b f sb.
+          let (r, e) =
+          f (addr 0x1020) 16 16 40 16 40 half stage (askedGrowing b sb) (round 16 refl (omega arith)) (round 40 refl (omega arith))
+          (omega arith) in
+          let q = saysResized b sb in
+          let z : _≡_ {A = ℕ} 0 1 = cc in omega arith);
+      resizeOverwrites =
+          shut (writing (Resized 40 40) (noise 0)) (
+            refit 40 refl (omega arith) (omega arith) refl,
+            0x1020,
+            (omega arith, omega arith),
+            (λ e. omega (arith, e, shown .held, getD-replicate {A = ℕ} 96 31 0 0 (omega arith))),
+          )
+          (λ b (g, y, both, n) sb.
+          let d = refitting b sb g in
+          let s = d .leaves .sound in
+          let base = ap (λ (a : Addr). a .0) (d .leaves .becomes .base) in
+          let above : left b g .heap .bottom .0 ≤ g .at .0 =
+          by-le (g .heap .bottom .0) (g .at .0)
+          (λ l. omega (arith, l, ap (λ (a : Addr). a .0) (d .leaves .becomes .bottom)))
+          (λ l. absurd (d .span (inr (inr (inl l))))) in
+          n (d .stay (y - g .heap .base .0)
+          (λ k in′ w.
+          let t = s .1 .each k in′ in
+          d .leaves .vacant y (
+            k,
+            in′,
+            (
+              omega (arith, w .0, base, above, both .0 .0, t .from, s .0 .bottom .above),
+              omega (arith, w .1, base, above, both .0 .0, t .from, t .sixteen, s .0 .bottom .above),
+            ),
+          ) .1 (both .1))));
       extendLosesPending =
           shut (answering halves (Extended 80 1)) ((λ by. 1), (λ by s p h m asks l e. let z : p ≡ 1 = cc in z))
           (λ b (left, f) sb.

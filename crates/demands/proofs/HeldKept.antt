@@ -7,23 +7,26 @@ use mathlib.Core.Logic.{⊎-elim}
 use Prim.Native.Nat.{ℕ, _+_, _-_, _%_, _^_, _<_}
 use native.Mathlib.Omega.{arith}
 use lib.Dec.{eqb, ltb}
-use borrow.Author.Tests.{eqb-true, eq-eqb}
+use borrow.Author.Tests.{eqb-true, eq-eqb, not-false}
 use Rattle.rules.specs.declared.Addr.{Addr}
 use Rattle.rules.specs.Fixed.{minSize, grain}
 use Rattle.rules.specs.Round.{downTo}
 use Rattle.rules.specs.Tests.{any}
-use Rattle.rules.specs.Kinds.{addr, same}
+use Rattle.rules.specs.Kinds.{addr, plus, same}
 use Rattle.rules.specs.Holes.{hole, end}
 use Rattle.rules.specs.Sound.{soundHoles}
 use Rattle.rules.specs.Allocate.{rounded, Found, nothing, found, find}
+use Rattle.rules.specs.Resize.{stretchEnd}
 use Rattle.rules.specs.Changes.{Change}
-use Rattle.rules.specs.Calls.{Call, opening, change, report, allocate, free, extend, Outcome, onlyHole, opened, taken, given, grown, gathered, extended, accepted}
+use Rattle.rules.specs.Calls.{Call, opening, change, report, allocate, free, extend, Outcome, onlyHole, opened, taken, given, refitted, grown, gathered, extended, accepted}
 use Rattle.rules.specs.Refusals.{refusal6, changeTests, tests}
 use Rattle.rules.specs.Answers.{answerNumbers}
 use Rattle.rules.specs.Runs.{Fits, Ask, calls, reads, AllFit, Block, block, sameBlock, without, Box, start, heldAfter, comesTo, boxAfter, nextBox, ends, HonestCall, Honest}
 use Rattle.rules.specs.InWords.{Valid}
-use Rattle.rules.proofs.Cases.{by-test, apart, all-each, each-all}
-use Rattle.rules.proofs.Layouts.{layout-passed}
+use Rattle.rules.proofs.Cases.{by-test, apart, or-left, all-each, each-all}
+use Rattle.rules.proofs.Layouts.{rounded-multiple, rounded-least, layout-passed}
+use Rattle.rules.proofs.Gaps.{gap-words}
+use Rattle.rules.proofs.ResizeWords.{resize-added}
 use Rattle.rules.proofs.SoundWords.{rounded-rounds, holes-words}
 use Rattle.rules.proofs.Passes.{Passes, by-decided}
 use Rattle.rules.proofs.Used.{find-splits}
@@ -132,7 +135,7 @@ module _ (b : Box) (settled : Settled b) where
   change-settled : (c : Change) (n : ℕ) → Fits (change c) → Stands n (b .heap) (b .holes) → Passes (changeTests c (b .heap) (b .holes))
       → HonestCall (change c) (accepted (change c) n (b .heap) (b .holes)) b
       → Settled (boxAfter (change c) b (accepted (change c) n (b .heap) (b .holes)))
-  unfolding accepted given extended gathered grown boxAfter heldAfter
+  unfolding accepted given refitted extended gathered grown boxAfter heldAfter added
   change-settled (Change.allocate s align) n f st p t =
       taken-settled s align (find (rounded s) align (b .holes)) (passed-valid s align (f .1) (p .0)) (st .sound) refl
   change-settled (Change.free x s align) n f st p t =
@@ -146,6 +149,28 @@ module _ (b : Box) (settled : Settled b) where
               without-cover y (block x s align) (b .held) (t _ _ _ refl),
             );
         each = λ j m. settled .each j (without-member (block x s align) (b .held) j m);
+      }
+  change-settled (Change.resize x s align q) n f st p t =
+      let held = t _ _ _ refl in
+      let g = hole x (rounded s) in
+      let suited = settled .each (block x s align) held in
+      let d = gap-words (plus x (rounded q)) (stretchEnd g (b .holes)) (not-false _ (or-left _ _ (p .1 .1 .1 .0))) in
+      record {
+        filled =
+            λ y.
+            omega (
+              arith,
+              settled .filled y,
+              resize-added (b .heap) (st .ruled .fair) (b .holes) g align (p .1 .1 .0) (st .sound) (rounded-multiple s) (rounded-least s) (rounded q)
+                  (rounded-multiple q) (rounded-least q) d y,
+              without-cover y (block x s align) (b .held) held,
+            );
+        each =
+            λ j m.
+            ⊎-elim
+            (λ e. rw e (record { valid = passed-valid q align (f .2) (p .1 .0); eight = suited .eight; multiple = suited .multiple }))
+            (λ i. settled .each j (without-member (block x s align) (b .held) j i))
+            (List·Memᴰ·cases-cons m);
       }
   change-settled (Change.extend by) n fit st p t =
       let h = b .heap in

@@ -161,7 +161,7 @@ fit-one (reads x ∷ asks) c r n f g = fit-one asks c r n f g
 
 pub held-untouched : HeldUntouched
 unfolding outcome nextBox
-held-untouched asks m ts h w m′ c rows f g run kept t k before later r y q v =
+held-untouched asks m ts h w m′ c rows f g run kept t y (k, before, r, q, v) later =
     let n = length w in
     let b = ends asks start in
     let follows = follows-from-calls asks m ts h m′ f run in
@@ -173,4 +173,4 @@ held-untouched asks m ts h w m′ c rows f g run kept t k before later r y q v =
     let s = held-sound asks k f before in
     let opened : h .bottom .0 ≡ 0 → ⊥ =
     λ z. omega (arith, ap (λ (x : Heap). x .bottom .0) heap, s .0 .base, s .0 .bottom .above) in
-    untouched c h w b g opened y (comesTo c n b) e (rw last at tiles) (k, rw last at later, r, q, v)
+    untouched c h w b g opened y (comesTo c n b) e (rw last at tiles) (rw last at later)

@@ -212,6 +212,7 @@ change-spare : (c : Change) (h : Heap) (ks : List Hole) → Spare (changeTests c
 unfolding refusalNumbers
 change-spare (Change.allocate s align) h ks = (refl, tt)
 change-spare (Change.free x s align) h ks = (refl, (refl, tt))
+change-spare (Change.resize x s align n) h ks = (refl, (refl, (refl, (refl, tt))))
 change-spare (Change.extend by) h ks = (refl, tt)
 
 report-spare : (r : Report) → Spare (reportTests r)

@@ -1,5 +1,5 @@
 -- What comes of a call is settled by the statements: two behaviours that meet them come to the same, call by call. Assumes nothing.
-use mathlib.Core.Path.{_≡_, refl, sym, _∙_}
+use mathlib.Core.Path.{_≡_, refl, sym, subst, _∙_}
 use mathlib.Core.Bool.{Bool}
 use mathlib.Core.List.{List, [], List·Memᴰ·head, Memᴰ·append-right}
 use mathlib.Core.Logic.{inl, inr, ⊎-elim}
@@ -14,17 +14,20 @@ use Rattle.rules.specs.Fixed.{grain}
 use Rattle.rules.specs.Round.{Power, downTo}
 use Rattle.rules.specs.Allocate.{rounded, candidate, find}
 use Rattle.rules.specs.Changes.{Change, Report}
-use Rattle.rules.specs.Calls.{Call, opening, change, report, allocate, free, extend, list, room, Outcome, done}
+use Rattle.rules.specs.Calls.{Call, opening, change, report, allocate, free, resize, extend, list, room, Outcome, done}
 use Rattle.rules.specs.Outcome.{Rows}
-use Rattle.rules.specs.InWords.{SoundHoles, Valid, RoomAt, NoLayout}
+use Rattle.rules.specs.InWords.{SoundHoles, Rounds, Valid, RoomAt, NoLayout, NoSpan}
 use Rattle.rules.specs.Runs.{Fits}
 use Rattle.rules.specs.Behaviour.{Behaviour}
-use Rattle.rules.specs.Statements.{Granted, Joined, Statements}
+use Rattle.rules.specs.Statements.{Granted, Joined, Refitted, Statements}
 use Rattle.rules.proofs.Cases.{cases, by-eq, by-le, apart}
 use Rattle.rules.proofs.Multiples.{down-is}
 use Rattle.rules.proofs.Powers.{power-pos, grain-power}
-use Rattle.rules.proofs.SoundWords.{rounded-rounds, is-left}
+use Rattle.rules.proofs.SoundWords.{rounded-rounds, rounds-rounded, words-fair, words-holes, is-left}
 use Rattle.rules.proofs.TestWords.{Means, means-power, no-start, no-layout, no-span}
+use Rattle.rules.specs.Holes.{hole}
+use Rattle.rules.proofs.Walk.{floorOf, sound-walk}
+use Rattle.rules.proofs.ResizeWords.{no-stretch}
 use Rattle.rules.proofs.Suits.{by-found, nothing-room, found-room}
 use Rattle.demands.proofs.OneHeap.{one-heap}
 use Rattle.demands.proofs.OneList.{one-list, one-place}
@@ -82,6 +85,17 @@ one-joined a h ks x s top pending used o p f g ls ns d e j k =
     one-list f g ls ns (j .sound .1) (k .sound .1)
     (λ y v. ⊎-elim (k .stays y) (k .becomes-free y) (j .vacant y v))
     (λ y v. ⊎-elim (j .stays y) (j .becomes-free y) (k .vacant y v)) in
+    let heap : f ≡ g = one-heap (rw new at (j .becomes)) (k .becomes) in
+    d ∙ rw (heap, new) (sym e)
+
+-- a block resized: which addresses are free fixes the new holes
+one-refitted : (a : Answer) (h : Heap) (ks : List Hole) (x r q used : ℕ) (o p : Outcome) (f g : Heap) (ls ns : List Hole)
+    → o ≡ done a f ls → p ≡ done a g ns → Refitted h ks x r q used f ls → Refitted h ks x r q used g ns → o ≡ p
+one-refitted a h ks x r q used o p f g ls ns d e j k =
+    let new : ls ≡ ns =
+    one-list f g ls ns (j .sound .1) (k .sound .1)
+    (λ y v. let t = j .vacant y v in k .becomes-free y (t .0) (t .1))
+    (λ y v. let t = k .vacant y v in j .becomes-free y (t .0) (t .1)) in
     let heap : f ≡ g = one-heap (rw new at (j .becomes)) (k .becomes) in
     d ∙ rw (heap, new) (sym e)
 
@@ -144,6 +158,41 @@ module _ (b e : Behaviour) (sb : Statements b) (se : Statements e) (h : Heap) (m
       let (f2, l2, e2, u2, j2) = rw same at (se .freeDoes h m x s align r j v (rw same t)) in
       one-joined _ h (b .holes h m) (x .0) r _ _ _ _ _ f1 f2 l1 l2 e1 e2 j1 j2)))
 
+  resize-settled : (x : Addr) (s align n : ℕ) → Fits (resize x s align n)
+      → b .outcome (resize x s align n) h m ≡ e .outcome (resize x s align n) h m
+  resize-settled x s align n f =
+      let d = sb .refusalsExactly (resize x s align n) h m f in
+      let k = se .refusalsExactly (resize x s align n) h m f in
+      entry b e sb se h m
+      (λ r p q. p _ _ d ∙ sym (q _ _ k))
+      (λ p q g j same.
+      let one = p _ _ d in
+      let two = q _ _ k in
+      decide (no-layout s align (f .2))
+      (λ o. one .0 o ∙ sym (two .0 o))
+      (λ o.
+      decide (no-layout n align (f .2))
+      (λ l. one .1 o .0 l ∙ sym (two .1 o .0 l))
+      (λ l.
+      let r = rounded s in
+      let u = rounded n in
+      let v = valid s align (f .2) o in
+      let w = valid n align (f .2) l in
+      let ks = b .holes h m in
+      decide (no-span x r h ks align)
+      (λ t. one .1 o .1 l .0 (r, v .rounds, t) ∙ sym (two .1 o .1 l .0 (r, v .rounds, rw same t)))
+      (λ t.
+      let free : ((c : ℕ) × Rounds s c × NoSpan h ks (x .0) c align) → ⊥ =
+      λ (c, is, bars). t (subst (λ (c : ℕ). NoSpan h ks (x .0) c align) (rounds-rounded is) bars) in
+      decide (no-stretch h (hole x r) (floorOf h ks) ks u (sound-walk h (words-fair h (g .1 .0)) ks (words-holes h ks (g .1 .1))))
+      (λ z.
+      one .1 o .1 l .1 free .0 (r, v .rounds, (u, w .rounds, z))
+      ∙ sym (two .1 o .1 l .1 (rw same free) .0 (r, v .rounds, (u, w .rounds, rw same z))))
+      (λ z.
+      let (f1, l1, e1, u1, j1) = sb .resizeDoes h m x s align n r u g v w t z in
+      let (f2, l2, e2, u2, j2) = rw same at (se .resizeDoes h m x s align n r u j v w (rw same t) (rw same z)) in
+      one-refitted _ h ks (x .0) r u _ _ _ f1 f2 l1 l2 e1 e2 j1 j2)))))
+
   extend-settled : (by : ℕ) → Fits (extend by) → b .outcome (extend by) h m ≡ e .outcome (extend by) h m
   extend-settled by f =
       let d = sb .refusalsExactly (extend by) h m f in
@@ -194,6 +243,7 @@ module _ (b e : Behaviour) (sb : Statements b) (se : Statements e) (h : Heap) (m
   settled (opening base named) f = opening-settled base named f
   settled (change (Change.allocate s align)) f = allocate-settled s align f
   settled (change (Change.free x s align)) f = free-settled x s align f
+  settled (change (Change.resize x s align n)) f = resize-settled x s align n f
   settled (change (Change.extend by)) f = extend-settled by f
   settled (report Report.list) f = list-settled
   settled (report (Report.room align)) f = room-settled align f

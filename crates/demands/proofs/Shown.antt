@@ -5,17 +5,18 @@ use mathlib.Core.List.{List, [], _∷_}
 use Prim.Native.Nat.{ℕ, _+_, _<_}
 use native.Mathlib.Omega.{arith}
 use lib.Count.{onesIn}
-use lib.ListN.{length, getD-replicate, List·getD-eq-default}
+use lib.ListN.{length, getD, getD-replicate, List·getD-eq-default}
 use Rattle.rules.specs.declared.Heap.{Heap}
 use Rattle.rules.specs.declared.Answer.{Answer}
-use Rattle.rules.specs.declared.Answer.the-variants.{Opened, Allocated, Freed, Extended, Listed, Room}
+use Rattle.rules.specs.declared.Answer.the-variants.{Opened, Allocated, Freed, Resized, Extended, Listed, Room}
 use Rattle.rules.specs.Kinds.{addr}
 use Rattle.rules.specs.Words.{word, store}
 use Rattle.rules.specs.Holes.{hole, headAt, putHead, holesFrom, firstOf, putHeads, total}
 use Rattle.rules.specs.Sound.{unopened, soundNumbers, gap, lie, rise, leaveBefore, leaveAfter, soundHoles, sound, holes}
 use Rattle.rules.specs.Allocate.{rounded, candidate, suits, later, find, grantOf, largestGrant, remains, split}
 use Rattle.rules.specs.Free.{inFront, freed, overlaps, eightToHole}
-use Rattle.rules.specs.Calls.{Call, opening, allocate, free, extend, list, room, opened, taken, given, grown, gathered, extended, accepted}
+use Rattle.rules.specs.Resize.{stretchEnd, restInFront, resized}
+use Rattle.rules.specs.Calls.{Call, opening, allocate, free, resize, extend, list, room, opened, taken, given, refitted, grown, gathered, extended, accepted}
 use Rattle.rules.specs.Refusals.{tests, unless}
 use Rattle.rules.specs.Outcome.{decided, outcome, leaves, After, after}
 use Rattle.rules.specs.InWords.{Sound}
@@ -67,6 +68,10 @@ freeing = free (addr 0x1020) 16 16
 abbrev emptied : After
 emptied = after freeing half stage
 
+-- the held block takes the hole behind it
+abbrev pub growing : Call
+growing = resize (addr 0x1020) 16 16 40
+
 -- ---- ours
 
 pub record Shown : Type 0 where
@@ -84,6 +89,10 @@ pub record Shown : Type 0 where
   goodThen : sound (emptied .heap) (holes (emptied .heap) (emptied .arena)) ≡ true
   pub joined : holes (emptied .heap) (emptied .arena) ≡ hole (addr 0x1008) 64 ∷ []
   pub again : after (allocate 16 16) (emptied .heap) (emptied .arena) .answer ≡ Allocated (addr 0x1020) 1
+  pub resizes : after growing half stage .answer ≡ Resized 40 40
+  pub larger : after growing half stage .heap .used ≡ 40
+  -- the first byte of the held block
+  pub held : getD stage 31 0 ≡ 0xa0
   pub grows : after (extend 14) half stage .answer ≡ Extended 80 1
   pub growsMore : after (extend 14) more stage .answer ≡ Extended 80 2
   pub lists : after list half stage .answer ≡ Listed 2 48
@@ -91,7 +100,7 @@ pub record Shown : Type 0 where
   pub crooked : after (room 32) half stage .answer ≡ Room 0 2
 
 pub shown : Shown
-unfolding onesIn word store headAt putHead holesFrom firstOf putHeads total soundNumbers gap lie rise leaveBefore leaveAfter soundHoles sound holes rounded candidate suits later find grantOf largestGrant remains split inFront freed overlaps eightToHole opened taken given grown gathered extended accepted tests unless decided outcome leaves after
+unfolding onesIn word store headAt putHead holesFrom firstOf putHeads total soundNumbers gap lie rise leaveBefore leaveAfter soundHoles sound holes rounded candidate suits later find grantOf largestGrant remains split inFront freed overlaps eightToHole stretchEnd restInFront resized opened taken given refitted grown gathered extended accepted tests unless decided outcome leaves after
 shown =
     record {
       opening = refl;
@@ -108,6 +117,9 @@ shown =
       goodThen = refl;
       joined = refl;
       again = refl;
+      resizes = refl;
+      larger = refl;
+      held = refl;
       grows = refl;
       growsMore = refl;
       lists = refl;
@@ -159,6 +171,13 @@ module _ (b : Behaviour) (sb : Statements b) where
   grantsAgain =
       let bytes = statements .bytesStay freeing half stage stage-bytes in
       ap (λ (x : After). x .answer) (sym (same .after (allocate 16 16) (emptied .heap) (emptied .arena) (omega arith) bytes)) ∙ shown .again
+
+  -- the resize of the held block
+  pub askedGrowing : Asked b growing half stage
+  askedGrowing = asked growing (omega arith)
+
+  pub saysResized : b .after growing half stage .answer ≡ Resized 40 40
+  saysResized = says growing half (omega arith) (shown .resizes)
 
   -- an opening
   pub saysOpen : b .after opens unopened stage .answer ≡ Opened (addr 0x1008) 64

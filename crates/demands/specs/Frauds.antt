@@ -10,10 +10,11 @@ use Rattle.rules.specs.declared.Hole.{Hole}
 use Rattle.rules.specs.declared.Heap.{Heap}
 use Rattle.rules.specs.declared.Refusal.{Refusal}
 use Rattle.rules.specs.declared.Refusal.the-variants.{OtherLength, NotSound}
-use Rattle.rules.specs.declared.Answer.the-variants.{Opened, Allocated, Freed, Extended, Listed, Room, Refused}
+use Rattle.rules.specs.declared.Answer.the-variants.{Opened, Allocated, Freed, Resized, Extended, Listed, Room, Refused}
 use Rattle.rules.specs.Kinds.{addr}
-use Rattle.rules.specs.Calls.{Call, opening, allocate, free, extend, list, room}
-use Rattle.rules.specs.InWords.{endOf, sum, Sound, number, Rounds, RoomAt, Within, Vacant}
+use Rattle.rules.specs.Calls.{Call, opening, allocate, free, resize, extend, list, room}
+use Rattle.rules.specs.Outcome.{After}
+use Rattle.rules.specs.InWords.{endOf, sum, Sound, number, Rounds, RoomAt, Within, Vacant, StretchEnds}
 use Rattle.rules.specs.Runs.{Fits}
 use Rattle.rules.specs.Behaviour.{Behaviour, Good}
 use Rattle.rules.specs.Statements.{Statements}
@@ -53,6 +54,38 @@ pub record UsedHole (b : Behaviour) (g : Grant b) : Type 0 where
   pub back : List Hole
   pub one : b .holes (g .heap) (g .arena) ≡ front ++ (hole ∷ back)
   pub inside : Within (hole .addr .0) (hole .size) (g .at)
+
+-- an accepted resize, with both rounded sizes
+pub record Resizing (b : Behaviour) : Type 0 where
+  pub at : Addr
+  pub size : ℕ
+  pub align : ℕ
+  pub newSize : ℕ
+  pub heap : Heap
+  pub arena : List ℕ
+  pub old : ℕ
+  pub new : ℕ
+  pub rounds : Rounds size old
+  pub newRounds : Rounds newSize new
+  pub said : ℕ
+  pub used : ℕ
+  pub fits : Fits (resize at size align newSize)
+  pub answer : b .after (resize at size align newSize) heap arena .answer ≡ Resized said used
+
+-- what it leaves
+abbrev pub left : (b : Behaviour) → Resizing b → After
+left b g = b .after (resize (g .at) (g .size) (g .align) (g .newSize)) (g .heap) (g .arena)
+
+-- the holes before it, and those after it
+abbrev pub holesBefore : (b : Behaviour) → Resizing b → List Hole
+holesBefore b g = b .holes (g .heap) (g .arena)
+
+abbrev pub holesAfter : (b : Behaviour) → Resizing b → List Hole
+holesAfter b g = b .holes (left b g .heap) (left b g .arena)
+
+-- the address y lies in both sizes of the block
+abbrev pub InBoth : (b : Behaviour) → Resizing b → ℕ → Type 0
+InBoth b g y = Within (g .at .0) (g .old) y × Within (g .at .0) (g .new) y
 
 pub record Frauds : Type 0 where
   -- every opening is refused
@@ -167,6 +200,46 @@ pub record Frauds : Type 0 where
       → List·Memᴰ k (b .holes h m)
       → k .addr .0 ≡ x .0 + r
       → List·Memᴰ k (b .holes (b .after (free x s align) h m .heap) (b .after (free x s align) h m .arena)))
+  -- once, a resize moves the block: an address that lies in both sizes of it is free then
+  pub resizeMoves : Caught (λ b. (g : Resizing b) × (y : ℕ) × InBoth b g y × Vacant (holesAfter b g) y)
+  -- once, a resize is granted though the stretch less the new rounded size is 8
+  pub resizeLeavesEight :
+      Caught
+      (λ b. (g : Resizing b) × (e : ℕ) × StretchEnds (holesBefore b g) (g .at .0) (g .old) e × (g .at .0 + g .new + 8 ≡ e))
+  -- once, a resize takes of the hole before the block: an address below the block was free and is so no more
+  pub resizeTakesBefore :
+      Caught
+      (λ b.
+      (g : Resizing b) × (y : ℕ) × (y < g .at .0) × Vacant (holesBefore b g) y × (Vacant (holesAfter b g) y → ⊥))
+  -- every resize leaves used as it was
+  pub resizeForgetsUsed :
+      Caught
+      (λ b.
+      (x : Addr) (s align n q u : ℕ) (h : Heap) (m : List ℕ) → Asked b (resize x s align n) h m
+      → b .after (resize x s align n) h m .answer ≡ Resized q u
+      → b .after (resize x s align n) h m .heap .used ≡ h .used)
+  -- once, the hole into which the block has grown stays in the list
+  pub resizeKeepsEaten :
+      Caught
+      (λ b.
+      (g : Resizing b) × (k : Hole)
+      × List·Memᴰ k (holesBefore b g)
+      × (k .addr .0 ≡ g .at .0 + g .old)
+      × (g .old < g .new)
+      × List·Memᴰ k (holesAfter b g))
+  -- every resize of a sound heap's block to a larger rounded size is refused
+  pub resizeRefusesGrowth :
+      Caught
+      (λ b.
+      (x : Addr) (s align n r q : ℕ) (h : Heap) (m : List ℕ) → Asked b (resize x s align n) h m → Rounds s r → Rounds n q → r < q
+      → Refuses b (resize x s align n) h m)
+  -- once, a resize changes a byte that lies in both sizes of the block
+  pub resizeOverwrites :
+      Caught
+      (λ b.
+      (g : Resizing b) × (y : ℕ)
+      × InBoth b g y
+      × (getD (left b g .arena) (y - g .heap .base .0) 0 ≡ getD (g .arena) (y - g .heap .base .0) 0 → ⊥))
   -- what is pending after the heap has grown follows from the bytes added alone: what was pending is lost
   pub extendLosesPending :
       Caught

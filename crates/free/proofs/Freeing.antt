@@ -35,13 +35,13 @@ module _ {h : Heap} {m : List ℕ} {a : Addr} {near : Near} (k : Known h m a nea
   span-around = around h near (hole a s) (holes h m) (k .sought .fair) (k .sound) (lies (k .sought))
 
   module _ (align : ℕ) (least : minSize ≤ s) where
-    decides : mayFree h near (hole a s) align ≡ not (any (refusal8 h (holes h m) (hole a s) align))
-    decides = may-free h near (hole a s) (holes h m) (k .sought .fair) (k .sound) (lies (k .sought)) least align
+    pub span-decides : mayFree h near (hole a s) align ≡ not (any (refusal8 h (holes h m) (hole a s) align))
+    span-decides = may-free h near (hole a s) (holes h m) (k .sought .fair) (k .sound) (lies (k .sought)) least align
 
     pub span-refused : mayFree h near (hole a s) align ≡ false → Fulfils (freedIfSound s a align h m) m (refusing h BadSpan)
     unfolding freeing
     span-refused e =
-        let t = not-false (any (refusal8 h (holes h m) (hole a s) align)) (sym decides ∙ e) in
+        let t = not-false (any (refusal8 h (holes h m) (hole a s) align)) (sym span-decides ∙ e) in
         fulfils-sound h m (holes h m) (frees s a align h m) (k .sound) (rw t (fulfils-refused h m BadSpan))
 
     module _ (may : mayFree h near (hole a s) align ≡ true) where
@@ -69,7 +69,7 @@ module _ {h : Heap} {m : List ℕ} {a : Addr} {near : Near} (k : Known h m a nea
           })
       unfolding freeing given
       span-freed l =
-          let t = not-true (any (refusal8 h (holes h m) (hole a s) align)) (sym decides ∙ may) in
+          let t = not-true (any (refusal8 h (holes h m) (hole a s) align)) (sym span-decides ∙ may) in
           fulfils-sound h m (holes h m) (frees s a align h m) (k .sound)
           (rw t
           (fulfils-changed h m (Freed s (h .used - s)) (freed (hole a s) (holes h m)) (h .top) (h .pending) (h .used - s) l))

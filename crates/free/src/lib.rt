@@ -11,6 +11,7 @@ use rules::Addr;
 use rules::Decided;
 use rules::Done;
 use rules::Heap;
+pub use span::may_free;
 ghost use Rattle.rules.specs.Calls as Calls;
 ghost use Rattle.rules.specs.Outcome.{Is, after};
 ghost use Rattle.rules.specs.Inner.{Fulfils};

@@ -1,4 +1,4 @@
-// The heap: every call of document 01, on a heap by value and a lent arena.
+// The heap: every call of document 01, and resize, on a heap by value and a lent arena.
 //
 // No public function has a `requires`. Each tests its own input, refuses with the paper's number and
 // ensures, for any seven numbers and any bytes, what it answers, the heap that it hands back and the
@@ -12,3 +12,4 @@ pub use open::empty;
 pub use open::open;
 pub use reports::list;
 pub use reports::room;
+pub use resize::resize;

@@ -17,9 +17,9 @@ use types.Run.{Walks, Finds, Opds}
 abbrev pub Word : Type 0
 Word = (x : ℕ) × (x < 2 ^ 64)
 
--- what lies in local i, which is one of two: n, which holds x, or another, which holds y
-abbrev pub in-local : ℕ → Word → Word → ℕ → Word
-in-local n x y i = getD (x ∷ []) (i - n) y
+-- what lies in local i: those from n on hold xs, and any other holds y
+abbrev pub in-local : ℕ → List Word → Word → ℕ → Word
+in-local n xs y i = getD xs (i - n) y
 
 module _ {M : Type 1} {𝓤 : URA M} {H : Heap 𝓤} {A : Atoms 𝓤} {K : Type 0} {W : Given 𝓤 H A} {E : Env 𝓤 H} where
   -- `types.Run`'s `from`, where the environment does not compute

@@ -1,17 +1,19 @@
 -- A free span between the holes before it and those behind it: what it becomes in front of these, which hole is the last before it, and
 -- the bounds of both. Assumes nothing.
-use mathlib.Core.Path.{_≡_, refl, sym, _∙_}
-use mathlib.Core.List.{List, [], _∷_, _++_}
+use mathlib.Core.Path.{_≡_, refl, sym, ap, _∙_}
+use mathlib.Core.List.{List, [], _∷_, _++_, append-nil}
 use Prim.Native.Nat.{ℕ, suc, _+_, _≤_}
 use native.Mathlib.Nat.{add-assoc}
 use native.Mathlib.Omega.{arith}
 use lib.ListN.{length}
 use borrow.Author.Tests.{eq-eqb, ne-eqb}
 use Rattle.rules.specs.Fixed.{minSize, addrLimit}
-use Rattle.rules.specs.Kinds.{placeOf, none}
+use Rattle.rules.specs.Kinds.{addr, plus, placeOf, none}
 use Rattle.rules.specs.Holes.{hole, end, headAt, holesFrom, firstOf}
 use Rattle.rules.specs.Sound.{most, holes}
+use Rattle.rules.specs.Allocate.{remains}
 use Rattle.rules.specs.Free.{joined, inFront}
+use Rattle.rules.specs.Resize.{stretchEnd, restInFront}
 use Rattle.rules.specs.declared.Addr.{Addr}
 use Rattle.rules.specs.declared.Place.{Place}
 use Rattle.rules.specs.declared.Head.{Head}
@@ -22,6 +24,7 @@ use Rattle.rules.proofs.Cases.{by-eq}
 use Rattle.rules.proofs.Walk.{sound-count}
 use Rattle.rules.proofs.Rises.{rises-le, rises-front, rises-back, sound-rises}
 use Rattle.rules.proofs.Lists.{first-or, Holds, holds-split, holds-from}
+use Rattle.rules.proofs.Resized.{stretch-apart}
 use Rattle.rules.proofs.Freed.{Beyond, last-end, inFront-touch, inFront-apart}
 use Rattle.walk.specs.declared.Cursor.{Cursor}
 use Rattle.walk.proofs.Turn.{start}
@@ -40,6 +43,9 @@ pub record Merged (base : Addr) (hi : ℕ) (m : List ℕ) (g : Hole) (back : Lis
   pub is : inFront g back ≡ hole (g .addr) size ∷ rest
   -- a hole that ends where the span starts grows by as much
   pub joins : (k : Hole) → end k .0 ≡ g .addr .0 → inFront (joined k g) back ≡ hole (k .addr) (k .size + size) ∷ rest
+  -- a block in its place has this stretch
+  pub stretch : stretchEnd g back ≡ plus (g .addr) size
+  pub cut : (s : ℕ) → restInFront g s back ≡ remains (plus (g .addr) s) (plus (g .addr) size) ++ rest
   pub head : mergedHead base m g (firstOf base back) ≡ record { size = size; next = firstOf base rest }
   pub least : minSize ≤ size
   pub rises : Rises (g .addr .0 + size) hi rest
@@ -47,13 +53,15 @@ pub record Merged (base : Addr) (hi : ℕ) (m : List ℕ) (g : Hole) (back : Lis
 
 merged : (base : Addr) (hi : ℕ) (m : List ℕ) (g : Hole) (back : List Hole) → base .0 ≤ end g .0 → hi ≤ addrLimit
     → minSize ≤ g .size → Rises (end g .0) hi back → Holds base m back none → Merged base hi m g back
-unfolding inFront mergedHead firstOf
+unfolding inFront stretchEnd restInFront mergedHead firstOf
 merged base hi m g [] a b l r t =
     record {
       size = g .size;
       rest = [];
       is = refl;
       joins = λ k e. refl;
+      stretch = refl;
+      cut = λ s. sym (append-nil (remains (plus (g .addr) s) (end g)));
       head = refl;
       least = l;
       rises = r;
@@ -72,6 +80,8 @@ merged base hi m g (k ∷ ks) a b l r t =
       rest = ks;
       is = inFront-touch g k ks e;
       joins = λ j d. inFront-touch (joined j g) k ks (omega arith) ∙ rw (add-assoc (j .size) (g .size) (k .size));
+      stretch = rw (eq-eqb (end g .0) (k .addr .0) e) (ap addr ends);
+      cut = λ s. rw (eq-eqb (end g .0) (k .addr .0) e, ends);
       head = rw (some, touches, t .0, first-or base ks);
       least = omega arith;
       rises = rw (← ends) (r .2);
@@ -84,6 +94,8 @@ merged base hi m g (k ∷ ks) a b l r t =
       rest = k ∷ ks;
       is = inFront-apart g (k ∷ ks) (omega (arith, n));
       joins = λ j d. inFront-apart (joined j g) (k ∷ ks) (omega (arith, n));
+      stretch = stretch-apart g (end g .0) hi k ks r (r .0) n;
+      cut = λ s. rw (ne-eqb (end g .0) (k .addr .0) n);
       head = rw (some, apart);
       least = l;
       rises = r;

@@ -5,7 +5,7 @@ use mathlib.Core.List.{List, _++_}
 use Prim.Native.Nat.{ℕ, _+_, _≤_}
 use lib.Dec.{eqb}
 use Rattle.rules.specs.Fixed.{minSize, addrLimit}
-use Rattle.rules.specs.Kinds.{addrOf, none, isNone, same}
+use Rattle.rules.specs.Kinds.{addrOf, placeOf, none, isNone, bytesTo, same}
 use Rattle.rules.specs.Holes.{end, headAt, firstOf}
 use Rattle.rules.specs.declared.Addr.{Addr}
 use Rattle.rules.specs.declared.Place.{Place}
@@ -27,6 +27,16 @@ relinked first one two = record { first = first; heads = record { one = one; two
 unfoldable pub linkedTo : Place → List ℕ → Place → Place → Write → Relinked
 linkedTo first m prev to one =
     cond (isNone prev) (relinked to one nothing) (relinked first one (write prev (headAt m prev .size) to))
+
+-- ---- what remains of a stretch
+
+-- what remains between two addresses, as a head to be written
+unfoldable pub remainder : Addr → Addr → Addr → Place → Write
+remainder base lo hi next = cond (same lo hi) nothing (write (placeOf base lo) (bytesTo lo hi) next)
+
+-- its place, or that of the next hole
+unfoldable pub leadsTo : Write → Place → Place
+leadsTo w next = cond (isNone (w .at)) next (w .at)
 
 -- ---- the span
 

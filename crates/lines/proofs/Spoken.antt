@@ -87,6 +87,7 @@ refusal-one no.BadLayout = refl
 refusal-one (no.NoRoom count) = refl
 refusal-one no.BadSpan = refl
 refusal-one no.PastArena = refl
+refusal-one no.BadStretch = refl
 
 -- an arena of a length has room for so many holes of a sound heap: the heap lies in the arena
 sound-few : (h : Heap) (ks : List Hole) {len : ℕ} → len ≡ h .len → soundNumbers h ≡ true → soundHoles h ks ≡ true

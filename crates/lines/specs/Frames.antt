@@ -57,11 +57,12 @@ forms =
     ∷ form 0x04 1 (λ n. is.Extend (n 0))
     ∷ form 0x05 0 (λ n. is.List)
     ∷ form 0x06 1 (λ n. is.Room (n 0))
+    ∷ form 0x07 4 (λ n. is.Resize (n 0) (n 1) (n 2) (n 3))
     ∷ []
 
 -- no call has more numbers
 abbrev pub mostNumbers : ℕ
-mostNumbers = 3
+mostNumbers = 4
 
 -- the form of a byte; one that is no call has no number and makes no frame
 unfoldable pub formOf : List Form → ℕ → Form

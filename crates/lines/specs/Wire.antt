@@ -5,7 +5,7 @@ use Prim.Native.Nat.{ℕ, _+_, _*_, _/_, _≤_}
 use lib.ListN.{take}
 use Rattle.rules.specs.Fixed.{minSize}
 use Rattle.rules.specs.Kinds.{addr}
-use Rattle.rules.specs.Calls.{Call, opening, allocate, free, extend, list, room, Outcome, refused, told, done}
+use Rattle.rules.specs.Calls.{Call, opening, allocate, free, resize, extend, list, room, Outcome, refused, told, done}
 use Rattle.rules.specs.Answers.{Numbers, refusalNumbers, answerNumbers}
 use Rattle.rules.specs.Outcome.{outcome, after}
 use Rattle.rules.specs.declared.Hole.{Hole}
@@ -47,6 +47,7 @@ unfoldable pub reply : Frame → Heap → List ℕ → Reply
 reply (is.Open base named) h m = replyTo (opening (addr base) named) h m
 reply (is.Allocate s align) h m = replyTo (allocate s align) h m
 reply (is.Free a s align) h m = replyTo (free (addr a) s align) h m
+reply (is.Resize a s align n) h m = replyTo (resize (addr a) s align n) h m
 reply (is.Extend by) h m = replyTo (extend by) h m
 reply is.List h m = replyTo list h m
 reply (is.Room align) h m = replyTo (room align) h m

@@ -66,6 +66,12 @@ pub fn answer_line(
         Frame::Free { addr, size, align } => {
             tell(out, free::free(h, arena, Addr(addr), size, align))
         }
+        Frame::Resize {
+            addr,
+            old,
+            align,
+            new,
+        } => tell(out, resize::resize(h, arena, Addr(addr), old, align, new)),
         Frame::Extend { by } => tell(out, extend::extend(h, arena, by)),
         Frame::List => tell_list(h, arena, out),
         Frame::Room { align } => {

@@ -8,17 +8,38 @@ ghost use Rattle.lines.specs.Frames.{digit, digits, numberAt, mostNumber
 // A frame: a call with its numbers, or a line that is none.
 pub enum Frame {
     // 01: base, named size.
-    Open { base: u64, named: u64 },
+    Open {
+        base: u64,
+        named: u64,
+    },
     // 02: size, alignment.
-    Allocate { size: u64, align: u64 },
+    Allocate {
+        size: u64,
+        align: u64,
+    },
     // 03: address, size, alignment.
-    Free { addr: u64, size: u64, align: u64 },
+    Free {
+        addr: u64,
+        size: u64,
+        align: u64,
+    },
     // 04: the bytes that the heap is given.
-    Extend { by: u64 },
+    Extend {
+        by: u64,
+    },
     // 05: no number.
     List,
     // 06: alignment.
-    Room { align: u64 },
+    Room {
+        align: u64,
+    },
+    // 07: address, old size, alignment, new size.
+    Resize {
+        addr: u64,
+        old: u64,
+        align: u64,
+        new: u64,
+    },
     // Any other line.
     Bad,
 }
@@ -29,7 +50,7 @@ const CALL: usize = 2;
 const NUMBER: usize = 16;
 
 // The most numbers of a frame, and the most digits.
-const NUMBERS: usize = 3;
+const NUMBERS: usize = 4;
 
 pub const FRAME: usize = CALL + NUMBER * NUMBERS;
 
@@ -105,6 +126,7 @@ fn count_of(call: u64) -> usize
         0x04 => 1,
         0x05 => 0,
         0x06 => 1,
+        0x07 => 4,
         _ => 0,
     }
 }
@@ -117,6 +139,7 @@ fn made(line: &[u8], call: u64) -> Frame
     let first = number_of(line, 0);
     let second = number_of(line, 1);
     let third = number_of(line, 2);
+    let fourth = number_of(line, 3);
     match call {
         0x01 => Frame::Open {
             base: first,
@@ -134,6 +157,12 @@ fn made(line: &[u8], call: u64) -> Frame
         0x04 => Frame::Extend { by: first },
         0x05 => Frame::List,
         0x06 => Frame::Room { align: first },
+        0x07 => Frame::Resize {
+            addr: first,
+            old: second,
+            align: third,
+            new: fourth,
+        },
         _ => Frame::Bad,
     }
 }

@@ -45,6 +45,11 @@ pub record Requested (h : Heap) (m : List ℕ) (s align w : ℕ) : Type 0 where
   pub asked : Asked w align
   pub multiple : w % grain ≡ 0
 
+-- a layout that is not refused is a request
+pub layout-asked : (s align w : ℕ) → align < 2 ^ width → layoutOf s align ≡ Rounded w → Asked w align
+layout-asked s align w a e =
+    let v = layout-valid s align w a e in record { power = v .power; least = rw (v .size) (rounded-least s); room = v .room }
+
 module _ (h : Heap) (m : List ℕ) (s align : ℕ) where
   -- it is refused
   module _ (c : Call) (later : Opens c ≡ false) {ts : List Test} (t : rest c h (holes h m) ≡ test BadLayout (refusal6 s align) ∷ ts) {r : Refusal} where
@@ -74,7 +79,7 @@ module _ (h : Heap) (m : List ℕ) (s align : ℕ) where
         lent = record { fair = sound-fair h (p .1); lent = p .0 };
         numbers = p .1;
         layout = q ∙ rw i;
-        asked = record { power = v .power; least = rw (v .size) (rounded-least s); room = v .room };
+        asked = layout-asked s align w a (q ∙ rw i);
         multiple = rw (v .size) (rounded-multiple s);
       }
   of-by a checked.Fair k Bad q e = let z : _≡_ {A = ℕ} 0 1 = cc in absurd (omega arith)

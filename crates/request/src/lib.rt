@@ -19,7 +19,7 @@ pub enum Request {
 }
 
 // A bad layout is refused only where the holes keep every rule: 5 comes first.
-fn bad_layout(h: Heap, arena: &[u8]) -> Refusal
+pub fn bad_layout(h: Heap, arena: &[u8]) -> Refusal
     requires { ⌜ Lent h (now arena) ⌝ }
     ensures { λ r. ⌜ r ≡ cond (soundHoles h (holes h (now (arena .entry)))) Refusal.BadLayout Refusal.NotSound ⌝ }
 {

@@ -28,7 +28,7 @@ use Rattle.rules.proofs.Suits.{candidate-eight, suits-lies}
 
 -- ---- what is left of a hole
 
-remains-walks : (h : Heap) (floor lo hi : Addr) (back : List Hole) → floor .0 ≤ lo .0 → lo .0 % grain ≡ 0 → hi .0 % grain ≡ 0
+pub remains-walks : (h : Heap) (floor lo hi : Addr) (back : List Hole) → floor .0 ≤ lo .0 → lo .0 % grain ≡ 0 → hi .0 % grain ≡ 0
     → Gap (lo .0) (hi .0) → hi .0 ≤ h .top .0 → walks h (plus hi minSize) back ≡ true
     → walks h floor (remains lo hi ++ back) ≡ true
 unfolding remains

@@ -20,10 +20,10 @@ use Rattle.rules.specs.Tests.{any}
 use Rattle.rules.specs.Kinds.{raised}
 use Rattle.rules.specs.Sound.{size, soundNumbers, soundHoles, holes}
 use Rattle.rules.specs.Allocate.{find, largestGrant}
-use Rattle.rules.specs.Calls.{Call, opening, allocate, free, extend, list, room, Outcome, refused, told, done, onlyHole, opened, taken, accepted}
+use Rattle.rules.specs.Calls.{Call, opening, allocate, free, resize, extend, list, room, Outcome, refused, told, done, onlyHole, opened, taken, accepted}
 use Rattle.rules.specs.Refusals.{Test, test, refusal1, refusal6, layoutOf, openedTests, tests, unless}
 use Rattle.rules.specs.Outcome.{decided, outcome, leaves, after, Rows, inRows, leavesRows, rowsAfter}
-use Rattle.rules.specs.Inner.{sifted, freeing, extending}
+use Rattle.rules.specs.Inner.{sifted, freeing, resizing, extending}
 use Rattle.rules.proofs.Cases.{cases}
 use Rattle.rules.proofs.Layouts.{layout-refused, layout-granted}
 use Rattle.rules.proofs.Walk.{sound-fair}
@@ -107,6 +107,22 @@ module _ (h : Heap) (m : List ℕ) (lent : length m ≡ h .len) (fair : soundNum
   free-on a s align e =
       let l = layout-granted s align e in
       outcome-fair (free a s align) h m refl lent fair ∙ rw (l .0, l .1)
+
+  -- the old layout passes and the new one does not
+  pub resize-6 : (a : Addr) (s align n : ℕ) {w : ℕ} → layoutOf s align ≡ Rounded w → layoutOf n align ≡ Bad
+      → outcome (resize a s align n) h m ≡ sifted h (holes h m) (refused BadLayout)
+  unfolding unless
+  resize-6 a s align n e b =
+      let l = layout-granted s align e in
+      outcome-fair (resize a s align n) h m refl lent fair ∙ rw (l .0, layout-refused n align b)
+
+  pub resize-on : (a : Addr) (s align n : ℕ) {w q : ℕ} → layoutOf s align ≡ Rounded w → layoutOf n align ≡ Rounded q
+      → outcome (resize a s align n) h m ≡ sifted h (holes h m) (resizing w a align q h (holes h m))
+  unfolding unless accepted resizing
+  resize-on a s align n e f =
+      let l = layout-granted s align e in
+      let k = layout-granted n align f in
+      outcome-fair (resize a s align n) h m refl lent fair ∙ rw (l .0, l .1, k .0, k .1)
 
   pub extend-on : (by : ℕ) → outcome (extend by) h m ≡ sifted h (holes h m) (extending by h (holes h m))
   unfolding unless accepted extending

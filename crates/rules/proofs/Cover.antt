@@ -33,7 +33,7 @@ module _ (y : ℕ) (k : Hole) where
   unfolding once
   once-in w = rw (le-leb (k .addr .0) y (w .0), lt-ltb y (end k .0) (w .1))
 
-  once-before : y < k .addr .0 → once y k ≡ 0
+  pub once-before : y < k .addr .0 → once y k ≡ 0
   unfolding once
   once-before l = rw (lt-leb (k .addr .0) y l)
 

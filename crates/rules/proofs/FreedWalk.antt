@@ -30,7 +30,7 @@ pub record Span (h : Heap) (g : Hole) : Type 0 where
   pub to : end g .0 ≤ h .top .0
   pub high : end g .0 + grain ≡ h .top .0 → ⊥
 
-span-ends : (h : Heap) (g : Hole) → h .top .0 % grain ≡ 0 → Span h g → ends h (behind g) ≡ true
+pub span-ends : (h : Heap) (g : Hole) → h .top .0 % grain ≡ 0 → Span h g → ends h (behind g) ≡ true
 span-ends h g t s =
     ⊎-elim (λ e. ends-top h (behind g) (omega arith)) (ends-low h (behind g))
     (eights-gap (end g .0) (h .top .0) (omega (arith, s .at8, s .size8)) t (s .to) (s .high))

@@ -51,6 +51,8 @@ pub mod Readings
 pub mod AllocateKept
 pub mod FreedWalk
 pub mod FreeKept
+pub mod Resized
+pub mod ResizeWords
 pub mod SoundKept
 pub mod MemoryWords
 -- all that is said of the calls

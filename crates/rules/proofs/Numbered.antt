@@ -17,6 +17,7 @@ refusal-numbers =
       seven = λ n. refl;
       eight = refl;
       nine = refl;
+      ten = refl;
     }
 
 pub answer-numbers : AnswerNumbers ours
@@ -26,6 +27,7 @@ answer-numbers =
       opens = λ a n. refl;
       allocates = λ a n. refl;
       frees = λ x y. refl;
+      resizes = λ x y. refl;
       extends = λ x y. refl;
       lists = λ x y. refl;
       reports = λ x y. refl;

@@ -16,7 +16,7 @@ use Rattle.rules.specs.Fixed.{minSize}
 use Rattle.rules.specs.Tests.{any}
 use Rattle.rules.specs.Allocate.{rounded, Found, nothing, found, find}
 use Rattle.rules.specs.Changes.{Change}
-use Rattle.rules.specs.Calls.{Call, change, Outcome, refused, done, taken, given, gathered, grown, extended, accepted}
+use Rattle.rules.specs.Calls.{Call, change, Outcome, refused, done, taken, given, refitted, gathered, grown, extended, accepted}
 use Rattle.rules.specs.Answers.{refusalNumbers}
 use Rattle.rules.specs.Refusals.{Test, tests, unless}
 use Rattle.rules.specs.Outcome.{decided}
@@ -56,9 +56,10 @@ module _ {ℓ} (P : Outcome → Type ℓ) (h : Heap) (ks : List Hole) (f : (r : 
   by-taken s align (found front k back) = g _ _ _ refl (λ r e. let z : _≡_ {A = ℕ} 0 1 = cc in omega arith)
 
   pub by-change : (c : Change) (len : ℕ) → P (accepted (change c) len h ks)
-  unfolding accepted given extended gathered grown
+  unfolding accepted given refitted extended gathered grown
   by-change (Change.allocate s align) len = by-taken (rounded s) align (find (rounded s) align ks)
   by-change (Change.free x s align) len = g _ _ _ refl (λ r e. let z : _≡_ {A = ℕ} 0 1 = cc in omega arith)
+  by-change (Change.resize x s align n) len = g _ _ _ refl (λ r e. let z : _≡_ {A = ℕ} 0 1 = cc in omega arith)
   by-change (Change.extend by) len =
       by-test P (ltb (h .pending + by) minSize) _ _
       (λ t. g _ _ _ refl (λ r e. let z : _≡_ {A = ℕ} 0 1 = cc in omega arith))

@@ -13,24 +13,27 @@ use Rattle.rules.specs.declared.Refusal.{Refusal}
 use Rattle.rules.specs.declared.Refusal.the-variants.{Unopened, OtherLength, NotSound, BadLayout, NoRoom}
 use Rattle.rules.specs.declared.Answer.{Answer}
 use Rattle.rules.specs.Fixed.{minSize}
+use Rattle.rules.specs.Holes.{hole}
 use Rattle.rules.specs.Round.{Power}
 use Rattle.rules.specs.Tests.{any}
 use Rattle.rules.specs.Sound.{soundNumbers, soundHoles, sound, holes}
 use Rattle.rules.specs.Allocate.{rounded, candidate, Found, nothing, found, find}
 use Rattle.rules.specs.Changes.{Change, Report}
-use Rattle.rules.specs.Calls.{opening, change, report, list, Outcome, refused, told, done, taken, given, gathered, grown, extended, accepted}
+use Rattle.rules.specs.Calls.{opening, change, report, list, Outcome, refused, told, done, taken, given, refitted, gathered, grown, extended, accepted}
 use Rattle.rules.specs.Refusals.{refusal3, refusal4, Test, test, openedTests, changeTests, reportTests, tests, unless}
 use Rattle.rules.specs.Outcome.{decided, outcome}
-use Rattle.rules.specs.InWords.{Rounds, RoomAt, NoLayout, NoSpan}
+use Rattle.rules.specs.InWords.{Rounds, RoomAt, NoLayout, NoSpan, NoStretch}
 use Rattle.rules.specs.Runs.{Fits}
 use Rattle.rules.specs.Behaviour.{ours}
 use Rattle.rules.specs.Statements.{Row, Decides, changeRows, reportRows, refusalsOf, RefusalsExactly}
 use Rattle.rules.proofs.Cases.{cases, by-test, or-left}
 use Rattle.rules.proofs.Layouts.{layout-passed}
 use Rattle.rules.proofs.Decide.{one-test}
-use Rattle.rules.proofs.SoundWords.{rounded-rounds, rounds-rounded, sound-words, sound-means}
+use Rattle.rules.proofs.SoundWords.{rounded-rounds, rounds-rounded, sound-words, sound-means, words-fair, words-holes}
 use Rattle.rules.proofs.TestWords.{Means, means-eq, means-lt, means-not, means-last, means-rounds, no-start, no-layout, no-span}
 use Rattle.rules.proofs.Suits.{nothing-room, found-room}
+use Rattle.rules.proofs.Walk.{floorOf, sound-walk}
+use Rattle.rules.proofs.ResizeWords.{no-stretch}
 use Rattle.rules.proofs.Passes.{Passes}
 
 -- ---- rows of words against lists of tests
@@ -113,7 +116,7 @@ module _ (h : Heap) (m : List ℕ) where
 
   change-decides : (c : Change) → Fits (change c) → sound h (holes h m) ≡ true
       → Decides (changeRows ours c h m) (unless (changeTests c h (holes h m)) (accepted (change c) (length m) h (holes h m)))
-  unfolding accepted given
+  unfolding accepted given refitted
   change-decides (Change.allocate s align) f e =
       decides (row BadLayout (NoLayout s align) ∷ []) (row (NoRoom (length (holes h m))) _ ∷ [])
       (changeTests (Change.allocate s align) h (holes h m)) _
@@ -124,6 +127,29 @@ module _ (h : Heap) (m : List ℕ) where
         refl,
         no-layout s align (f .2),
         (refl, means-rounds (λ r. NoSpan h (holes h m) (x .0) r align) s (no-span x (rounded s) h (holes h m) align), tt),
+      )
+      (λ p. done-passes _ _ _)
+  change-decides (Change.resize x s align n) f e =
+      let ks = holes h m in
+      let good = sound-words h ks e in
+      let walk = sound-walk h (words-fair h (good .0)) ks (words-holes h ks (good .1)) in
+      decides (changeRows ours (Change.resize x s align n) h m) [] (changeTests (Change.resize x s align n) h ks) _ (
+        refl,
+        no-layout s align (f .2),
+        (
+          refl,
+          no-layout n align (f .2),
+          (
+            refl,
+            means-rounds (λ r. NoSpan h ks (x .0) r align) s (no-span x (rounded s) h ks align),
+            (
+              refl,
+              means-rounds (λ r. ((q : ℕ) × Rounds n q × NoStretch ks (x .0) r q)) s
+                  (means-rounds (λ q. NoStretch ks (x .0) (rounded s) q) n (no-stretch h (hole x (rounded s)) (floorOf h ks) ks (rounded n) walk)),
+              tt,
+            ),
+          ),
+        ),
       )
       (λ p. done-passes _ _ _)
   change-decides (Change.extend by) f e =

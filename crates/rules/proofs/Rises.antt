@@ -42,7 +42,7 @@ rises-append lo mid hi (k ∷ xs) ys r s = (r .0, r .1, rises-append (k .addr .0
 -- ---- the holes of a sound heap
 
 -- a walk goes through holes that rise, and the last of them ends at top or before it
-walks-rises : (h : Heap) (floor : Addr) (k : Hole) (ks : List Hole) → walks h floor (k ∷ ks) ≡ true
+pub walks-rises : (h : Heap) (floor : Addr) (k : Hole) (ks : List Hole) → walks h floor (k ∷ ks) ≡ true
     → Rises (floor .0) (h .top .0) (k ∷ ks)
 walks-rises h floor k [] e = omega (arith, walks-head h floor k [] e)
 walks-rises h floor k (j ∷ js) e =

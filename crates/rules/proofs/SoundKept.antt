@@ -12,12 +12,14 @@ use Rattle.rules.specs.declared.Hole.{Hole}
 use Rattle.rules.specs.declared.Heap.{Heap}
 use Rattle.rules.specs.Fixed.{minSize, grain}
 use Rattle.rules.specs.Round.{Power, downTo}
+use Rattle.rules.specs.Kinds.{plus}
 use Rattle.rules.specs.Holes.{hole, firstOf}
-use Rattle.rules.specs.Sound.{soundNumbers, soundHoles, holes}
+use Rattle.rules.specs.Sound.{soundNumbers, gap, soundHoles, holes}
 use Rattle.rules.specs.Allocate.{rounded, Found, nothing, found, find, split}
 use Rattle.rules.specs.Free.{freed}
+use Rattle.rules.specs.Resize.{stretchEnd, resized}
 use Rattle.rules.specs.Changes.{Change}
-use Rattle.rules.specs.Calls.{Call, opening, change, report, Outcome, refused, told, done, renewed, opened, taken, given, grown, gathered, extended, accepted}
+use Rattle.rules.specs.Calls.{Call, opening, change, report, Outcome, refused, told, done, renewed, opened, taken, given, refitted, grown, gathered, extended, accepted}
 use Rattle.rules.specs.Refusals.{Test, openedTests, changeTests, tests}
 use Rattle.rules.specs.Outcome.{decided, outcome}
 use Rattle.rules.specs.Runs.{Fits}
@@ -30,6 +32,8 @@ use Rattle.rules.proofs.Walk.{sound-ruled, sound-count}
 use Rattle.rules.proofs.SoundWords.{ruled-words}
 use Rattle.rules.proofs.AllocateKept.{allocate-kept}
 use Rattle.rules.proofs.FreeKept.{renewed-ruled, free-sound, gather-ruled, gather-sound, grow-ruled, grow-sound}
+use Rattle.rules.proofs.Gaps.{gap-words}
+use Rattle.rules.proofs.ResizeWords.{resize-sound}
 use Rattle.rules.proofs.OpenWords.{opened-ruled, opened-sound}
 use Rattle.rules.proofs.Passes.{Passes, by-decided}
 
@@ -73,7 +77,7 @@ module _ (len : ℕ) (h : Heap) (ks : List Hole) (st : Stands len h ks) where
       (allocate-kept h s align ks front back k (st .ruled .fair) p s8 s16 (st .sound) e)
 
   change-keeps : (c : Change) → Fits (change c) → Passes (changeTests c h ks) → Keeps len (accepted (change c) len h ks)
-  unfolding accepted given extended gathered grown
+  unfolding accepted given refitted extended gathered grown
   change-keeps (Change.allocate s align) f p =
       taken-keeps (rounded s) align (find (rounded s) align ks) (layout-passed s align (f .1) (p .0) .power) (rounded-multiple s)
       (rounded-least s) refl
@@ -81,6 +85,12 @@ module _ (len : ℕ) (h : Heap) (ks : List Hole) (st : Stands len h ks) where
       let r = rounded s in
       renewed-keeps (renewed-ruled h (freed (hole x r) ks) (h .used - r) (st .ruled))
       (free-sound h (st .ruled .fair) ks (hole x r) align (p .1 .0) (st .sound) (rounded-multiple s) (rounded-least s))
+  change-keeps (Change.resize x s align n) f p =
+      let g = hole x (rounded s) in
+      let q = rounded n in
+      let d = gap-words (plus x q) (stretchEnd g ks) (not-false (gap (plus x q) (stretchEnd g ks)) (or-left _ _ (p .1 .1 .1 .0))) in
+      renewed-keeps (renewed-ruled h (resized g q ks) (h .used - g .size + q) (st .ruled))
+      (resize-sound h (st .ruled .fair) ks g align (p .1 .1 .0) (st .sound) (rounded-multiple s) (rounded-least s) q (rounded-multiple n) (rounded-least n) d)
   change-keeps (Change.extend by) f p =
       let l = ltb-false (h .base .0 + h .len) (h .top .0 + h .pending + by) (or-left _ _ (p .0)) in
       let sum = h .pending + by in

@@ -9,6 +9,7 @@ use Rattle.rules.proofs.Numbered.{refusal-numbers, answer-numbers}
 use Rattle.rules.proofs.Lowest.{demand2}
 use Rattle.rules.proofs.OpenWords.{open-does}
 use Rattle.rules.proofs.FreeWords.{free-does, extend-gathers, extend-grows}
+use Rattle.rules.proofs.ResizeWords.{resize-does, same-size-granted}
 use Rattle.rules.proofs.Reports.{room-does, list-does}
 use Rattle.rules.proofs.Readings.{readers-do}
 use Rattle.rules.proofs.MemoryWords.{memory}
@@ -27,6 +28,8 @@ statements =
       demand2 = demand2;
       openDoes = open-does;
       freeDoes = free-does;
+      resizeDoes = resize-does;
+      sameSizeGranted = same-size-granted;
       extendGathers = extend-gathers;
       extendGrows = extend-grows;
       roomDoes = room-does;

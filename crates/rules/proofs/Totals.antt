@@ -52,7 +52,7 @@ module _ {f : Hole → ℕ} (adds : Adds f) where
       (λ t. omega (arith, inFront-added (joined k g) ks, adds .joins k g (eqb-true (end k .0) (g .addr .0) t)))
       (λ t. omega arith))
 
-  remains-added : (lo hi : Addr) → added f (remains lo hi) ≡ f (hole lo (bytesTo lo hi))
+  pub remains-added : (lo hi : Addr) → added f (remains lo hi) ≡ f (hole lo (bytesTo lo hi))
   unfolding remains added
   remains-added lo hi =
       let k = hole lo (bytesTo lo hi) in
@@ -97,13 +97,13 @@ module _ {f : Hole → ℕ} (adds : Adds f) where
 
 -- ---- the sizes
 
-abbrev bytes : Hole → ℕ
+abbrev pub bytes : Hole → ℕ
 bytes k = k .size
 
-bytes-add : Adds bytes
+pub bytes-add : Adds bytes
 bytes-add = record { empty = λ k e. e; joins = λ g k e. refl }
 
-total-added : (ks : List Hole) → total ks ≡ added bytes ks
+pub total-added : (ks : List Hole) → total ks ≡ added bytes ks
 unfolding total added
 total-added [] = refl
 total-added (k ∷ ks) = rw (total-added ks)

@@ -81,7 +81,7 @@ module _ (s align : ℕ) (k : Hole) (suit : suits s align k ≡ true) where
 
 -- ---- what is left of it
 
-remains-rises : (lo hi : Addr) → Gap (lo .0) (hi .0) → Rises (lo .0) (hi .0) (remains lo hi)
+pub remains-rises : (lo hi : Addr) → Gap (lo .0) (hi .0) → Rises (lo .0) (hi .0) (remains lo hi)
 unfolding remains
 remains-rises lo hi g =
     by-test (Rises (lo .0) (hi .0)) (same lo hi) [] (hole lo (bytesTo lo hi) ∷ [])

@@ -10,7 +10,7 @@ use Rattle.rules.specs.declared.Heap.{Heap}
 use Rattle.rules.specs.declared.Refusal.{Refusal}
 use Rattle.rules.specs.declared.Refusal.the-variants.{NoRoom}
 use Rattle.rules.specs.declared.Answer.{Answer}
-use Rattle.rules.specs.declared.Answer.the-variants.{Opened, Allocated, Freed, Extended, Listed, Room}
+use Rattle.rules.specs.declared.Answer.the-variants.{Opened, Allocated, Freed, Resized, Extended, Listed, Room}
 use Rattle.rules.specs.Fixed.{minSize, grain}
 use Rattle.rules.specs.Round.{downTo}
 use Rattle.rules.specs.Kinds.{plus, bytesTo, raised}
@@ -18,6 +18,7 @@ use Rattle.rules.specs.Holes.{hole, firstOf}
 use Rattle.rules.specs.Sound.{size}
 use Rattle.rules.specs.Allocate.{rounded, candidate, Found, nothing, found, find, largestGrant, split}
 use Rattle.rules.specs.Free.{freed}
+use Rattle.rules.specs.Resize.{resized}
 use Rattle.rules.specs.Changes.{Change, Report}
 
 -- the calls
@@ -33,6 +34,9 @@ allocate s align = change (Change.allocate s align)
 
 abbrev pub free : Addr → ℕ → ℕ → Call
 free a s align = change (Change.free a s align)
+
+abbrev pub resize : Addr → ℕ → ℕ → ℕ → Call
+resize a s align n = change (Change.resize a s align n)
 
 abbrev pub extend : ℕ → Call
 extend by = change (Change.extend by)
@@ -108,6 +112,13 @@ taken s align h ks (found front k back) =
 unfoldable pub given : ℕ → Addr → Heap → List Hole → Outcome
 given s a h ks = changed (Freed s (h .used - s)) h (freed (hole a s) ks) (h .top) (h .pending) (h .used - s)
 
+-- ---- resize
+
+-- the block g has s bytes from then on; used follows
+unfoldable pub refitted : Hole → ℕ → Heap → List Hole → Outcome
+refitted g s h ks =
+    changed (Resized s (h .used - g .size + s)) h (resized g s ks) (h .top) (h .pending) (h .used - g .size + s)
+
 -- ---- extend
 
 -- s bytes are added as a free span at top, and top rises by it; used stays
@@ -146,5 +157,6 @@ accepted (opening base named) len h ks =
     done (Opened (raised grain base) (onlyHole base named .size)) (opened len base named) (onlyHole base named ∷ [])
 accepted (change (Change.allocate s align)) len h ks = taken (rounded s) align h ks (find (rounded s) align ks)
 accepted (change (Change.free a s align)) len h ks = given (rounded s) a h ks
+accepted (change (Change.resize a s align n)) len h ks = refitted (hole a (rounded s)) (rounded n) h ks
 accepted (change (Change.extend by)) len h ks = extended by h ks
 accepted (report r) len h ks = told (reported r h ks) (listed r ks)

@@ -7,6 +7,8 @@ pub data Change : Type 0 where
   allocate : ℕ → ℕ → Change
   -- address, size, alignment
   free : Addr → ℕ → ℕ → Change
+  -- address, old size, alignment, new size
+  resize : Addr → ℕ → ℕ → ℕ → Change
   -- by
   extend : ℕ → Change
 

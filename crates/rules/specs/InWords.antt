@@ -125,6 +125,16 @@ NoStart len base named =
     ⊎ (len < named)
     ⊎ ((bottom : ℕ) × (s : ℕ) × Left base named bottom s × (s < 16))
 
+-- the stretch of the block of r bytes at x, which is the block plus the hole that touches its end, if any, ends at e
+abbrev pub StretchEnds : List Hole → ℕ → ℕ → ℕ → Type 0
+StretchEnds ks x r e =
+    ((k : Hole) × List·Memᴰ k ks × (k .addr .0 ≡ x + r) × (endOf k ≡ e))
+    ⊎ (((k : Hole) → List·Memᴰ k ks → k .addr .0 ≡ x + r → ⊥) × (x + r ≡ e))
+
+-- the stretch less q bytes is neither 0 nor at least 16
+abbrev pub NoStretch : List Hole → ℕ → ℕ → ℕ → Type 0
+NoStretch ks x r q = (e : ℕ) × StretchEnds ks x r e × (Gap (x + q) e → ⊥)
+
 -- the alignment is not a power of two, or the rounded size is above 2^63 − alignment
 abbrev pub NoLayout : ℕ → ℕ → Type 0
 NoLayout size align = (Power align → ⊥) ⊎ ((r : ℕ) × Rounds size r × (2 ^ 63 < r + align))

@@ -14,15 +14,15 @@ use Rattle.rules.specs.declared.Write.{Write}
 use Rattle.rules.specs.declared.Writes.{Writes}
 use Rattle.rules.specs.declared.Decided.{Decided}
 use Rattle.rules.specs.declared.Refusal.{Refusal}
-use Rattle.rules.specs.declared.Refusal.the-variants.{NotSound, BadSpan, PastArena}
+use Rattle.rules.specs.declared.Refusal.the-variants.{NotSound, BadSpan, PastArena, BadStretch}
 use Rattle.rules.specs.declared.Answer.the-variants.{Refused}
 use Rattle.rules.specs.Fixed.{minSize, grain, arenaLimit, addrLimit}
 use Rattle.rules.specs.Tests.{any}
 use Rattle.rules.specs.Kinds.{plus, same, notAfter, multipleOf, placeOf, none, isNone}
 use Rattle.rules.specs.Holes.{hole, end, putHead, firstOf, putHeads}
 use Rattle.rules.specs.Sound.{soundHoles}
-use Rattle.rules.specs.Calls.{Outcome, refused, given, extended}
-use Rattle.rules.specs.Refusals.{refusal8, refusal9}
+use Rattle.rules.specs.Calls.{Outcome, refused, given, refitted, extended}
+use Rattle.rules.specs.Refusals.{refusal8, refusal9, refusal10}
 use Rattle.rules.specs.Outcome.{After}
 
 -- ---- memory
@@ -144,6 +144,13 @@ sifted h ks o = cond (soundHoles h ks) o (refused NotSound)
 -- a free on sound holes
 unfoldable pub freeing : ℕ → Addr → ℕ → Heap → List Hole → Outcome
 freeing s a align h ks = cond (any (refusal8 h ks (hole a s) align)) (refused BadSpan) (given s a h ks)
+
+-- a resize on sound holes
+unfoldable pub resizing : ℕ → Addr → ℕ → ℕ → Heap → List Hole → Outcome
+resizing s a align n h ks =
+    cond (any (refusal8 h ks (hole a s) align))
+    (refused BadSpan)
+    (cond (any (refusal10 ks (hole a s) n)) (refused BadStretch) (refitted (hole a s) n h ks))
 
 -- an extension on sound holes
 unfoldable pub extending : ℕ → Heap → List Hole → Outcome

@@ -9,9 +9,11 @@ pub mod Kinds
 pub mod Words
 pub mod Holes
 pub mod Sound
--- what each call does: the rounded size and the hole used; the freed span; the calls; the readers
+-- what each call does: the rounded size and the hole used; the freed span; the resized block; the calls; the
+-- readers
 pub mod Allocate
 pub mod Free
+pub mod Resize
 pub mod Changes
 pub mod Calls
 pub mod Readers

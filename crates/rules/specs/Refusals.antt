@@ -8,16 +8,17 @@ use Rattle.rules.specs.declared.Addr.{Addr}
 use Rattle.rules.specs.declared.Hole.{Hole}
 use Rattle.rules.specs.declared.Heap.{Heap}
 use Rattle.rules.specs.declared.Refusal.{Refusal}
-use Rattle.rules.specs.declared.Refusal.the-variants.{BadOpening, AlreadyOpened, Unopened, OtherLength, NotSound, BadLayout, BadSpan, PastArena}
+use Rattle.rules.specs.declared.Refusal.the-variants.{BadOpening, AlreadyOpened, Unopened, OtherLength, NotSound, BadLayout, BadSpan, PastArena, BadStretch}
 use Rattle.rules.specs.declared.Layout.{Layout}
 use Rattle.rules.specs.declared.Layout.the-variants.{Rounded, Bad}
 use Rattle.rules.specs.Fixed.{arenaLimit, addrLimit, minSize, grain, width}
 use Rattle.rules.specs.Tests.{any}
 use Rattle.rules.specs.Kinds.{addr, plus, same, before, multipleOf}
 use Rattle.rules.specs.Holes.{hole, end}
-use Rattle.rules.specs.Sound.{arenaEnd, soundNumbers, soundHoles}
+use Rattle.rules.specs.Sound.{arenaEnd, soundNumbers, gap, soundHoles}
 use Rattle.rules.specs.Allocate.{rounded}
 use Rattle.rules.specs.Free.{overlaps, eight, eightToHole}
+use Rattle.rules.specs.Resize.{stretchEnd}
 use Rattle.rules.specs.Changes.{Change, Report}
 use Rattle.rules.specs.Calls.{Call, opening, change, report, onlyHole, Outcome, refused}
 
@@ -83,6 +84,10 @@ refusal8 h ks g align =
 abbrev pub refusal9 : ℕ → Heap → List Bool
 refusal9 by h = before (arenaEnd h) (plus (plus (h .top) (h .pending)) by) ∷ []
 
+-- the stretch less the new rounded size s is neither 0 nor at least 16
+abbrev pub refusal10 : List Hole → Hole → ℕ → List Bool
+refusal10 ks g s = not (gap (plus (g .addr) s) (stretchEnd g ks)) ∷ []
+
 -- ---- the order of the tests
 
 pub record Test : Type 0 where
@@ -101,11 +106,17 @@ openedTests len h ks =
     ∷ test NotSound (refusal5Holes h ks)
     ∷ []
 
--- 6, 8 and 9: a change, behind those. 7 comes of the walk itself (`taken`)
+-- 6, 8, 9 and 10: a change, behind those. Resize tests 6 for the old layout and for the new one. 7 comes of the walk itself (`taken`)
 abbrev pub changeTests : Change → Heap → List Hole → List Test
 changeTests (Change.allocate s align) h ks = test BadLayout (refusal6 s align) ∷ []
 changeTests (Change.free a s align) h ks =
     test BadLayout (refusal6 s align) ∷ test BadSpan (refusal8 h ks (hole a (rounded s)) align) ∷ []
+changeTests (Change.resize a s align n) h ks =
+    test BadLayout (refusal6 s align)
+    ∷ test BadLayout (refusal6 n align)
+    ∷ test BadSpan (refusal8 h ks (hole a (rounded s)) align)
+    ∷ test BadStretch (refusal10 ks (hole a (rounded s)) (rounded n))
+    ∷ []
 changeTests (Change.extend by) h ks = test PastArena (refusal9 by h) ∷ []
 
 -- 6: the room report, behind those too, with the size counted as 16

@@ -26,6 +26,7 @@ abbrev pub Fits : Call → Type 0
 Fits (opening base named) = (base .0 < 2 ^ 64) × (named < 2 ^ 64)
 Fits (change (Change.allocate s align)) = (s < 2 ^ 64) × (align < 2 ^ 64)
 Fits (change (Change.free x s align)) = (x .0 < 2 ^ 64) × (s < 2 ^ 64) × (align < 2 ^ 64)
+Fits (change (Change.resize x s align n)) = (x .0 < 2 ^ 64) × (s < 2 ^ 64) × (align < 2 ^ 64) × (n < 2 ^ 64)
 Fits (change (Change.extend by)) = by < 2 ^ 64
 Fits (report Report.list) = Unit {0}
 Fits (report (Report.room align)) = align < 2 ^ 64
@@ -112,11 +113,12 @@ pub record Box : Type 0 where
 abbrev pub start : Box
 start = record { heap = unopened; holes = []; held = [] }
 
--- the blocks held after an accepted call; the first value of allocate's answer is the granted address
+-- the blocks held after an accepted call; the first value of allocate's answer is the granted address; a resized block has its new size
 unfoldable pub heldAfter : Call → Answer → List Block → List Block
 heldAfter (opening base named) a bs = []
 heldAfter (change (Change.allocate s align)) a bs = block (addr (answerNumbers a .one)) s align ∷ bs
 heldAfter (change (Change.free x s align)) a bs = without (block x s align) bs
+heldAfter (change (Change.resize x s align n)) a bs = block x n align ∷ without (block x s align) bs
 heldAfter (change (Change.extend by)) a bs = bs
 heldAfter (report r) a bs = bs
 
@@ -150,13 +152,15 @@ unfoldable pub ends : List Ask → Box → Box
 ends [] b = b
 ends (a ∷ asks) b = ends asks (nextBox a b)
 
--- ---- the premise on frees
+-- ---- the premise on frees and resizes
 
--- an accepted free names a block then held, with its own size and alignment
+-- an accepted free, or resize, names a block then held, with its own size and alignment
 abbrev pub HonestCall : Call → Outcome → Box → Type 0
 HonestCall (opening base named) o b = Unit {0}
 HonestCall (change (Change.allocate s align)) o b = Unit {0}
 HonestCall (change (Change.free x s align)) o b =
+    (a : Answer) (h : Heap) (ks : List Hole) → o ≡ done a h ks → List·Memᴰ (block x s align) (b .held)
+HonestCall (change (Change.resize x s align n)) o b =
     (a : Answer) (h : Heap) (ks : List Hole) → o ≡ done a h ks → List·Memᴰ (block x s align) (b .held)
 HonestCall (change (Change.extend by)) o b = Unit {0}
 HonestCall (report r) o b = Unit {0}

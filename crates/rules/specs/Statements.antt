@@ -12,18 +12,18 @@ use Rattle.rules.specs.declared.Hole.{Hole}
 use Rattle.rules.specs.declared.Heap.{Heap}
 use Rattle.rules.specs.declared.Done.{Done}
 use Rattle.rules.specs.declared.Refusal.{Refusal}
-use Rattle.rules.specs.declared.Refusal.the-variants.{BadOpening, AlreadyOpened, Unopened, OtherLength, NotSound, BadLayout, NoRoom, BadSpan, PastArena}
+use Rattle.rules.specs.declared.Refusal.the-variants.{BadOpening, AlreadyOpened, Unopened, OtherLength, NotSound, BadLayout, NoRoom, BadSpan, PastArena, BadStretch}
 use Rattle.rules.specs.declared.Answer.{Answer}
-use Rattle.rules.specs.declared.Answer.the-variants.{Opened, Allocated, Freed, Extended, Listed, Room, Refused}
+use Rattle.rules.specs.declared.Answer.the-variants.{Opened, Allocated, Freed, Resized, Extended, Listed, Room, Refused}
 use Rattle.rules.specs.Round.{Below}
 use Rattle.rules.specs.Kinds.{addr, place}
 use Rattle.rules.specs.Holes.{hole}
 use Rattle.rules.specs.Sound.{unopened, holes}
 use Rattle.rules.specs.Changes.{Change, Report}
-use Rattle.rules.specs.Calls.{Call, opening, change, report, allocate, free, extend, list, room, Outcome, refused, told, done}
+use Rattle.rules.specs.Calls.{Call, opening, change, report, allocate, free, resize, extend, list, room, Outcome, refused, told, done}
 use Rattle.rules.specs.Answers.{numbers, answerNumbers}
 use Rattle.rules.specs.Outcome.{Rows, after, Is, rowsAfter}
-use Rattle.rules.specs.InWords.{Valid, endOf, SoundNumbers, Sound, Hold, Rounds, Lies, RoomAt, Within, Vacant, Left, NoStart, NoLayout, NoSpan}
+use Rattle.rules.specs.InWords.{Valid, endOf, SoundNumbers, Sound, Hold, Rounds, Lies, RoomAt, Within, Vacant, Left, NoStart, NoLayout, NoSpan, NoStretch}
 use Rattle.rules.specs.Runs.{Fits, Reader, Ask, calls, AllFit, Told, Kept, Run, Block, Box, start, comesTo, tells, ends, Honest}
 use Rattle.rules.specs.Behaviour.{Behaviour, Good}
 
@@ -86,6 +86,12 @@ changeRows b (Change.free x s align) h m =
     row BadLayout (NoLayout s align)
     ∷ row BadSpan ((r : ℕ) × Rounds s r × NoSpan h (b .holes h m) (x .0) r align)
     ∷ []
+changeRows b (Change.resize x s align n) h m =
+    row BadLayout (NoLayout s align)
+    ∷ row BadLayout (NoLayout n align)
+    ∷ row BadSpan ((r : ℕ) × Rounds s r × NoSpan h (b .holes h m) (x .0) r align)
+    ∷ row BadStretch ((r : ℕ) × Rounds s r × ((q : ℕ) × Rounds n q × NoStretch (b .holes h m) (x .0) r q))
+    ∷ []
 changeRows b (Change.extend by) h m = row PastArena (h .base .0 + h .len < h .top .0 + h .pending + by) ∷ []
 
 -- a report, behind them too
@@ -119,12 +125,14 @@ pub record RefusalNumbers (b : Behaviour) : Type 0 where
   pub seven : (n : ℕ) → b .answerNumbers (Refused (NoRoom n)) ≡ numbers 7 0 n
   pub eight : b .answerNumbers (Refused BadSpan) ≡ numbers 8 0 0
   pub nine : b .answerNumbers (Refused PastArena) ≡ numbers 9 0 0
+  pub ten : b .answerNumbers (Refused BadStretch) ≡ numbers 10 0 0
 
 -- an accepted call's number is 0, with its two values
 pub record AnswerNumbers (b : Behaviour) : Type 0 where
   pub opens : (a : Addr) (n : ℕ) → b .answerNumbers (Opened a n) ≡ numbers 0 (a .0) n
   pub allocates : (a : Addr) (n : ℕ) → b .answerNumbers (Allocated a n) ≡ numbers 0 (a .0) n
   pub frees : (x y : ℕ) → b .answerNumbers (Freed x y) ≡ numbers 0 x y
+  pub resizes : (x y : ℕ) → b .answerNumbers (Resized x y) ≡ numbers 0 x y
   pub extends : (x y : ℕ) → b .answerNumbers (Extended x y) ≡ numbers 0 x y
   pub lists : (x y : ℕ) → b .answerNumbers (Listed x y) ≡ numbers 0 x y
   pub reports : (x y : ℕ) → b .answerNumbers (Room x y) ≡ numbers 0 x y
@@ -202,6 +210,30 @@ FreeDoes b =
     × (b .outcome (free x s align) h m ≡ done (Freed r (h .used - r)) h′ new)
     × (r ≤ h .used)
     × Joined h (b .holes h m) (x .0) r (h .top .0) (h .pending) (h .used - r) h′ new
+
+-- document 02, 2: "Granted, the block keeps its address and the bytes common to both sizes, and the rest of the stretch is a hole or nothing.
+-- Used follows." A block of r bytes at x has q bytes then: what is free is what was and the old block, less the new one
+pub record Refitted (h : Heap) (ks : List Hole) (x r q : ℕ) (used : ℕ) (h′ : Heap) (new : List Hole) : Type 0 where
+  pub vacant : (y : ℕ) → Vacant new y → (Vacant ks y ⊎ Within x r y) × (Within x q y → ⊥)
+  pub becomes-free : (y : ℕ) → Vacant ks y ⊎ Within x r y → (Within x q y → ⊥) → Vacant new y
+  pub sound : Sound h′ new
+  pub becomes : Becomes h new (h .top .0) (h .pending) used h′
+
+abbrev pub ResizeDoes : Behaviour → Type 0
+ResizeDoes b =
+    (h : Heap) (m : List ℕ) (x : Addr) (s align n r q : ℕ) → Good b h m → Valid s align r → Valid n align q
+    → (NoSpan h (b .holes h m) (x .0) r align → ⊥)
+    → (NoStretch (b .holes h m) (x .0) r q → ⊥)
+    → (h′ : Heap) × (new : List Hole)
+    × (b .outcome (resize x s align n) h m ≡ done (Resized q (h .used - r + q)) h′ new)
+    × (r ≤ h .used)
+    × Refitted h (b .holes h m) (x .0) r q (h .used - r + q) h′ new
+
+-- an unchanged size is granted to every block that 8 lets through
+abbrev pub SameSizeGranted : Behaviour → Type 0
+SameSizeGranted b =
+    (h : Heap) (m : List ℕ) (x : Addr) (s align r : ℕ) → Good b h m → Valid s align r → (NoSpan h (b .holes h m) (x .0) r align → ⊥)
+    → (h′ : Heap) × (new : List Hole) × (b .outcome (resize x s align s) h m ≡ done (Resized r (h .used)) h′ new)
 
 abbrev pub ExtendGathers : Behaviour → Type 0
 ExtendGathers b =
@@ -312,6 +344,8 @@ pub record Statements (b : Behaviour) : Type 0 where
   pub demand2 : Demand2 b
   pub openDoes : OpenDoes b
   pub freeDoes : FreeDoes b
+  pub resizeDoes : ResizeDoes b
+  pub sameSizeGranted : SameSizeGranted b
   pub extendGathers : ExtendGathers b
   pub extendGrows : ExtendGrows b
   pub roomDoes : RoomDoes b
@@ -390,19 +424,16 @@ HeldIsFreed =
     × (comesTo (free (b .addr) (b .size) (b .align)) (ends asks start .heap .len) (ends asks start)
     ≡ done (Freed r (ends asks start .heap .used - r)) h′ ks)
 
--- no call changes a byte of a block held before and after it
+-- no call changes a byte of a block held before and after it, whether as it was or resized
 abbrev pub HeldUntouched : Type 0
 HeldUntouched =
     (asks : List Ask) (m : List ℕ) (ts : List Told) (h : Heap) (w m′ : List ℕ) (c : Call) (rows : Rows) → AllFit asks → Fits c
     → Run asks unopened m ts h m′
     → Kept h m′ w
     → Honest (asks ++ (calls c rows (length w) ∷ [])) start
-    → (b : Block)
-    → List·Memᴰ b (ends asks start .held)
-    → List·Memᴰ b (ends (asks ++ (calls c rows (length w) ∷ [])) start .held)
-    → (r y : ℕ)
-    → Rounds (b .size) r
-    → Within (b .addr .0) r y
+    → (y : ℕ)
+    → Occupied (ends asks start .held) y
+    → Occupied (ends (asks ++ (calls c rows (length w) ∷ [])) start .held) y
     → getD (after c h w .arena) (y - h .base .0) 0 ≡ getD w (y - h .base .0) 0
 
 -- ---- nothing is loose: two outcomes that meet a call's promise are equal, to the number, the answer, the heap, the arena and the rows

@@ -44,7 +44,7 @@ pub struct Heap {
     pub used: u64,
 }
 
-// Why the box says no: the paper's refusals 1 to 9, in order.
+// Why the box says no: the paper's refusals 1 to 9 and, for resize, 10, in order.
 pub enum Refusal {
     // 1: no heap can be made of what was lent.
     BadOpening,
@@ -64,6 +64,8 @@ pub enum Refusal {
     BadSpan,
     // 9: the arena has not that many bytes left.
     PastArena,
+    // 10: the stretch less the new rounded size is neither 0 nor at least 16.
+    BadStretch,
 }
 
 // What a call answers: two values of its own, or a refusal.
@@ -74,6 +76,8 @@ pub enum Answer {
     Allocated { addr: Addr, count: u64 },
     // Free: the rounded size that was given back, and what is still held.
     Freed { rounded: u64, used: u64 },
+    // Resize: the new rounded size, and what is held then.
+    Resized { rounded: u64, used: u64 },
     // Extend: the bytes that the heap deals out now, and those that wait behind top.
     Extended { size: u64, pending: u64 },
     // List: how many holes there are, and the bytes in them.

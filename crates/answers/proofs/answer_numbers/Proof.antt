@@ -25,6 +25,9 @@ enum-known-a-6 c = search needs
 enum-known-a-7 : tie.Need-enum-known-a-7
 enum-known-a-7 c = search needs
 
+enum-known-a-8 : tie.Need-enum-known-a-8
+enum-known-a-8 c = search needs
+
 refusal-numbers-requires : tie.Need-refusal-numbers-requires
 refusal-numbers-requires c κs = search needs
 
@@ -54,7 +57,11 @@ returns-6 c = rw (c .before .a6 .given .1)
 
 returns-7 : tie.Need-returns-7
 unfolding answerNumbers
-returns-7 c = let after-a7 = c .before .before in rw (after-a7 .a7 .given .1) (c .refusal-numbers .ensures)
+returns-7 c = rw (c .before .a7 .given .1)
+
+returns-8 : tie.Need-returns-8
+unfolding answerNumbers
+returns-8 c = let after-a8 = c .before .before in rw (after-a8 .a8 .given .1) (c .refusal-numbers .ensures)
 
 pub answer-numbers-spec : {M : Type 1} → statement M
 answer-numbers-spec =
@@ -67,6 +74,7 @@ answer-numbers-spec =
     enum-known-a-5
     enum-known-a-6
     enum-known-a-7
+    enum-known-a-8
     refusal-numbers-requires
     returns
     returns-2
@@ -74,4 +82,5 @@ answer-numbers-spec =
     returns-4
     returns-5
     returns-6
-    returns-7)
+    returns-7
+    returns-8)

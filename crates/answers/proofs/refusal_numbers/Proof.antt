@@ -31,6 +31,9 @@ enum-told-7 c = search needs
 enum-told-8 : tie.Need-enum-told-8
 enum-told-8 c = search needs
 
+enum-told-9 : tie.Need-enum-told-9
+enum-told-9 c = search needs
+
 returns : tie.Need-returns
 unfolding refusalNumbers
 returns c = rw (c .enum-told .given .1)
@@ -67,6 +70,10 @@ returns-9 : tie.Need-returns-9
 unfolding refusalNumbers
 returns-9 c = rw (c .enum-told8 .given .1)
 
+returns-10 : tie.Need-returns-10
+unfolding refusalNumbers
+returns-10 c = rw (c .enum-told9 .given .1)
+
 pub refusal-numbers-spec : {M : Type 1} → statement M
 refusal-numbers-spec =
     tie.close
@@ -80,6 +87,7 @@ refusal-numbers-spec =
     enum-known-r
     enum-told-7
     enum-told-8
+    enum-told-9
     returns
     returns-2
     returns-3
@@ -88,4 +96,5 @@ refusal-numbers-spec =
     returns-6
     returns-7
     returns-8
-    returns-9)
+    returns-9
+    returns-10)

@@ -85,10 +85,10 @@ module _ {M : Type 1} (𝓤 : URA M) (H : Heap 𝓤) (A : Atoms 𝓤) (W : Given
 
   -- what the call is sent
   abbrev size′ : Word
-  size′ = in-local 3 (size, size-ok) (align, align-ok) (passed .0)
+  size′ = in-local 3 ((size, size-ok) ∷ []) (align, align-ok) (passed .0)
 
   abbrev align′ : Word
-  align′ = in-local 3 (size, size-ok) (align, align-ok) (passed .1)
+  align′ = in-local 3 ((size, size-ok) ∷ []) (align, align-ok) (passed .1)
 
   abbrev sent : ℕ × (ℕ × Unit {0})
   sent = (size′ .0, (align′ .0, tt))

@@ -89,10 +89,10 @@ module _ {M : Type 1} (𝓤 : URA M) (H : Heap 𝓤) (A : Atoms 𝓤) (W : Given
 
   -- what the call is sent
   abbrev size′ : Word
-  size′ = in-local 4 (size, size-ok) (align, align-ok) (passed .0)
+  size′ = in-local 4 ((size, size-ok) ∷ []) (align, align-ok) (passed .0)
 
   abbrev align′ : Word
-  align′ = in-local 4 (size, size-ok) (align, align-ok) (passed .1)
+  align′ = in-local 4 ((size, size-ok) ∷ []) (align, align-ok) (passed .1)
 
   abbrev sent : Addr × (ℕ × (ℕ × Unit {0}))
   sent = (addr, (size′ .0, (align′ .0, tt)))

@@ -2,7 +2,7 @@
 -- Assumes nothing.
 use mathlib.Core.Path.{_≡_, refl, sym, ap, _∙_}
 use Rattle.rules.specs.Changes.{Report}
-use Rattle.rules.specs.Calls.{opening, allocate, free, extend, room}
+use Rattle.rules.specs.Calls.{opening, allocate, free, resize, extend, room}
 use Rattle.lines.specs.Wire.{reply, replied}
 use Rattle.lines.specs.declared.reading.Frame.{Frame}
 use Rattle.lines.proofs.Placed.{line-front}
@@ -54,11 +54,20 @@ tell-requires-3 c κs = search needs
 enum-known-frame-4 : tie.Need-enum-known-frame-4
 enum-known-frame-4 c = search needs
 
-extend-requires : tie.Need-extend-requires
-extend-requires c κs = search needs
+resize-requires : tie.Need-resize-requires
+resize-requires c κs = search needs
 
 tell-requires-4 : tie.Need-tell-requires-4
 tell-requires-4 c κs = search needs
+
+enum-known-frame-5 : tie.Need-enum-known-frame-5
+enum-known-frame-5 c = search needs
+
+extend-requires : tie.Need-extend-requires
+extend-requires c κs = search needs
+
+tell-requires-5 : tie.Need-tell-requires-5
+tell-requires-5 c κs = search needs
 
 enum-told : tie.Need-enum-told
 enum-told c = search needs
@@ -66,14 +75,14 @@ enum-told c = search needs
 tell-list-requires : tie.Need-tell-list-requires
 tell-list-requires c κs = search needs
 
-enum-known-frame-5 : tie.Need-enum-known-frame-5
-enum-known-frame-5 c = search needs
+enum-known-frame-6 : tie.Need-enum-known-frame-6
+enum-known-frame-6 c = search needs
 
 room-requires : tie.Need-room-requires
 room-requires c κs = search needs
 
-tell-requires-5 : tie.Need-tell-requires-5
-tell-requires-5 c κs = search needs
+tell-requires-6 : tie.Need-tell-requires-6
+tell-requires-6 c κs = search needs
 
 enum-told-2 : tie.Need-enum-told-2
 enum-told-2 c = search needs
@@ -118,32 +127,42 @@ returns-4 c =
     let f = called .before .before .before .before in
     let k = f .before .before in
     let s = start k .args in
-    replied-line (extend _) (s .h) (s .arena .now) (c .tell4 .result) (c .tell4 .last .0) (comes-to k (f .frame4 .given .1)) refl
-    (called .extend .ensures) (c .tell4 .ensures)
+    replied-line (resize _ _ _ _) (s .h) (s .arena .now) (c .tell4 .result) (c .tell4 .last .0) (comes-to k (f .frame4 .given .1)) refl
+    (called .resize .ensures) (c .tell4 .ensures)
 
 returns-5 : tie.Need-returns-5
 unfolding reply
 returns-5 c =
+    let called = c .before in
+    let f = called .before .before .before .before in
+    let k = f .before .before in
+    let s = start k .args in
+    replied-line (extend _) (s .h) (s .arena .now) (c .tell5 .result) (c .tell5 .last .0) (comes-to k (f .frame5 .given .1)) refl
+    (called .extend .ensures) (c .tell5 .ensures)
+
+returns-6 : tie.Need-returns-6
+unfolding reply
+returns-6 c =
     let f = c .before .before .before in
     let k = f .before .before in
     let s = start k .args in
     replied-list (s .h) (s .arena .now) (c .tell-list .result) (c .tell-list .last .1 .1 .0) (comes-to k (f .enum-told .given .1))
     (c .tell-list .ensures)
 
-returns-6 : tie.Need-returns-6
+returns-7 : tie.Need-returns-7
 unfolding reply
-returns-6 c =
+returns-7 c =
     let called = c .before .before in
     let f = called .before .before .before .before in
     let k = f .before .before in
     let s = start k .args in
     let y = report-stays (Report.room _) (s .h) (s .arena .now) in
-    replied-line (room _) (s .h) (s .arena .now) (c .tell5 .result) (c .tell5 .last .0) (comes-to k (f .frame5 .given .1)) refl
-    (called .room .ensures, y .0, y .1) (c .tell5 .ensures)
+    replied-line (room _) (s .h) (s .arena .now) (c .tell6 .result) (c .tell6 .last .0) (comes-to k (f .frame6 .given .1)) refl
+    (called .room .ensures, y .0, y .1) (c .tell6 .ensures)
 
-returns-7 : tie.Need-returns-7
+returns-8 : tie.Need-returns-8
 unfolding reply
-returns-7 c =
+returns-8 c =
     let f = c .before .before in
     let after-read-frame = f .before .before in
     rw (comes-to after-read-frame (f .enum-told2 .given .1))
@@ -164,13 +183,16 @@ answer-line-spec =
     free-requires
     tell-requires-3
     enum-known-frame-4
-    extend-requires
+    resize-requires
     tell-requires-4
+    enum-known-frame-5
+    extend-requires
+    tell-requires-5
     enum-told
     tell-list-requires
-    enum-known-frame-5
+    enum-known-frame-6
     room-requires
-    tell-requires-5
+    tell-requires-6
     enum-told-2
     put-line-requires
     returns
@@ -179,4 +201,5 @@ answer-line-spec =
     returns-4
     returns-5
     returns-6
-    returns-7)
+    returns-7
+    returns-8)

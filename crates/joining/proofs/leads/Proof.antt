@@ -1,8 +1,8 @@
--- `allocate::split::leads` meets its contract: its two returns are the cases of the definition. Assumes nothing.
+-- `joining::leads` meets its contract: its two returns are the cases of the definition. Assumes nothing.
 use borrow.Author.Tests.{eq-eqb, ne-eqb}
-use Rattle.allocate.specs.Granted.{leadsTo}
-use Rattle.allocate.proofs.split.leads.Statement.{statement}
-use Rattle.allocate.proofs.split.leads.Tie as tie
+use Rattle.joining.specs.Span.{leadsTo}
+use Rattle.joining.proofs.leads.Statement.{statement}
+use Rattle.joining.proofs.leads.Tie as tie
 
 returns : tie.Need-returns
 unfolding leadsTo

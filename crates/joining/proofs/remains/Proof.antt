@@ -1,9 +1,9 @@
--- `allocate::split::remains` meets its contract: its two returns are the cases of the definition. Assumes nothing.
+-- `joining::remains` meets its contract: its two returns are the cases of the definition. Assumes nothing.
 use mathlib.Core.Path.{sym}
 use borrow.Author.Needs.{needs}
-use Rattle.allocate.proofs.Pieces.{remainder-none, remainder-some}
-use Rattle.allocate.proofs.split.remains.Statement.{statement}
-use Rattle.allocate.proofs.split.remains.Tie as tie
+use Rattle.joining.proofs.Remainder.{remainder-none, remainder-some}
+use Rattle.joining.proofs.remains.Statement.{statement}
+use Rattle.joining.proofs.remains.Tie as tie
 
 nothing-requires : tie.Need-nothing-requires
 nothing-requires c κs = search needs
