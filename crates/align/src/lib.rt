@@ -16,13 +16,14 @@ pub fn offset(x: u64, align: u64) -> u64
     x & (align - 1)
 }
 
-// Rounds a size down: the result is the greatest multiple of `align` at or below `size`. The panic
-// on a bad alignment went to the callers' refusal 6.
+// Rounds a size down: the result is the greatest multiple of `align` at or below `size`. One mask
+// clears the digits below the alignment's own. The panic on a bad alignment went to the callers'
+// refusal 6.
 pub fn align_down_size(size: u64, align: u64) -> u64
     requires { ⌜ Power align ⌝ }
     ensures { λ r. ⌜ Below align size r ⌝ }
 {
-    size - offset(size, align)
+    size & !(align - 1)
 }
 
 // Rounds a size up: the result is the least multiple of `align` at or above `size`. No sum wraps,
