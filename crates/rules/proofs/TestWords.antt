@@ -19,7 +19,7 @@ use Rattle.rules.specs.Allocate.{rounded}
 use Rattle.rules.specs.Free.{overlaps, eightToHole}
 use Rattle.rules.specs.Calls.{onlyHole}
 use Rattle.rules.specs.Refusals.{refusal1, onePower, refusal6, refusal8}
-use Rattle.rules.specs.InWords.{endOf, Rounds, Left, NoStart, NoLayout, NoSpan}
+use Rattle.rules.specs.InWords.{mostBytes, endOf, Rounds, Left, NoStart, NoLayout, NoSpan}
 use Rattle.rules.proofs.Cases.{cases, apart, last, all-each, each-all, Some, some-first, some-later, some-cases}
 use Rattle.rules.proofs.Powers.{one-power, power-one}
 use Rattle.rules.proofs.Layouts.{rounded-least}
@@ -79,7 +79,7 @@ means-rounds P s m = (
 pub no-start : (len : ℕ) (base : Addr) (named : ℕ) → Means (any (refusal1 len base named)) (NoStart len (base .0) named)
 no-start len base named =
     means-or (means-eq (base .0) 0)
-    (means-or (means-lt 65536 len)
+    (means-or (means-lt mostBytes len)
     (means-or (means-lt (2 ^ 63) (base .0 + len)) (means-or (means-lt len named) (means-last small))))
   where
     s : ℕ

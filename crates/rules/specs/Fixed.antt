@@ -1,9 +1,9 @@
 -- The numbers that the paper fixes, each by one name. Definitions only.
 use Prim.Native.Nat.{ℕ, _^_}
 
--- the most bytes of an arena
+-- the most bytes of an arena: 16 MiB
 abbrev pub arenaLimit : ℕ
-arenaLimit = 65536
+arenaLimit = 16777216
 
 -- what base + arena length is at most, and what a rounded size and its alignment are together
 abbrev pub addrLimit : ℕ

@@ -20,11 +20,15 @@ abbrev pub sum : List Hole → ℕ
 sum [] = 0
 sum (k ∷ ks) = k .size + sum ks
 
+-- an arena has at most 16,777,216 bytes
+abbrev pub mostBytes : ℕ
+mostBytes = 16777216
+
 -- ---- a heap is sound
 
 pub record SoundNumbers (h : Heap) : Type 0 where
   pub base : 1 ≤ h .base .0
-  pub arena : h .len ≤ 65536
+  pub arena : h .len ≤ mostBytes
   pub low : h .base .0 + h .len ≤ 2 ^ 63
   pub bottom : Above 8 (h .base .0) (h .bottom .0)
   pub eight : (h .top .0 - h .bottom .0) % 8 ≡ 0
@@ -120,7 +124,7 @@ pub record Left (base named bottom s : ℕ) : Type 0 where
 abbrev pub NoStart : ℕ → ℕ → ℕ → Type 0
 NoStart len base named =
     (base ≡ 0)
-    ⊎ (65536 < len)
+    ⊎ (mostBytes < len)
     ⊎ (2 ^ 63 < base + len)
     ⊎ (len < named)
     ⊎ ((bottom : ℕ) × (s : ℕ) × Left base named bottom s × (s < 16))

@@ -24,7 +24,7 @@ use Rattle.rules.specs.Calls.{Call, opening, change, report, onlyHole, O
 
 -- ---- the table: a refusal is given exactly if one of its conditions holds
 
--- base 0, arena over 65,536, base + length over 2^63, named size above the length, or under 16 bytes left after both roundings
+-- base 0, arena over 16,777,216, base + length over 2^63, named size above the length, or under 16 bytes left after both roundings
 abbrev pub refusal1 : ℕ → Addr → ℕ → List Bool
 refusal1 len base named =
     same base (addr 0)

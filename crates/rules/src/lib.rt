@@ -4,7 +4,7 @@
 // The numbers that the paper fixes, as specs/Fixed.antt has them: the most bytes of an arena; 2^63,
 // what base + arena length is at most, and a rounded size with its alignment; the bytes of a head,
 // which are the least size of a hole; and what addresses and sizes are multiples of.
-pub const ARENA_LIMIT: u64 = 65_536;
+pub const ARENA_LIMIT: u64 = 16_777_216;
 
 pub const ADDR_LIMIT: u64 = 0x8000_0000_0000_0000;
 
