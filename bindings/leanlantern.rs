@@ -50,7 +50,7 @@ impl<'a> Lantern<'a> {
 
     // Each call below lends two arrays of their right lengths and a slice with its own length, all apart.
 
-    /// Opens the heap: its first byte counts as `base`, and it gets `named` bytes. Bottom and size.
+    /// Opens the heap on an arena of at most 16 MiB: its first byte counts as `base`, and it gets `named` bytes. Bottom and size.
     pub fn open(&mut self, base: u64, named: u64) -> Answer {
         let mut answer = [0; 2];
         let n = unsafe { c::lantern_open(self.words.as_mut_ptr(), self.arena.as_mut_ptr(), self.arena.len(), base, named, answer.as_mut_ptr()) };

@@ -1,9 +1,9 @@
 /* Leanlantern: a small heap over memory that you lend, with proved answers.
  *
  * A heap is seven 64-bit words: base, arena length, bottom, top, first, pending, used. Seven zeros are an unopened heap. The caller keeps
- * them and lends the arena to each call; `base` is whatever address its first byte is to count as. Alignments are of addresses counted
- * from `base`, not of pointers: with the arena's own address for `base`, an address is the pointer. A call answers 0 or the number of a
- * refusal, and puts two values into `answer`:
+ * them and lends the arena, of at most 16,777,216 bytes (16 MiB), to each call; `base` is whatever address its first byte is to count as.
+ * Alignments are of addresses counted from `base`, not of pointers: with the arena's own address for `base`, an address is the pointer. A
+ * call answers 0 or the number of a refusal, and puts two values into `answer`:
  *
  *   open      bottom, size           allocate  address, count of holes looked at
  *   free      rounded size, used     extend    size, pending
