@@ -50,7 +50,7 @@ build_against() {
 # difference comes at once, so nothing is optimised)
 build_faulty_ours() {
     mkdir -p "$work/$1/tests/against" "$work/$1/bindings"
-    cp "$here/main.rs" "$work/$1/tests/against/"
+    cp "$here"/*.rs "$work/$1/tests/against/"
     sed "$2" "$root/bindings/leanlantern.rs" >"$work/$1/bindings/leanlantern.rs"
     if cmp -s "$root/bindings/leanlantern.rs" "$work/$1/bindings/leanlantern.rs"; then
         echo "against: the planted fault $1 does not fit the bindings" >&2
