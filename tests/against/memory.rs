@@ -3,24 +3,30 @@
 use crate::chance::Rng;
 use std::alloc::Layout;
 
+/// The arena of most modes, and the largest one there can be.
 pub const ARENA: usize = 65_536;
-const STEP: usize = 1 << 20;
+pub const LARGEST: usize = 16_777_216;
 
-/// Memory at an odd multiple of 2^20: no larger alignment is met in it, so that a run depends on its seed alone and not on where the
-/// memory happens to lie.
+/// Memory for an arena, with 16 bytes more for its residue. It lies at an odd multiple of a power of two, at least 2^20 and no smaller
+/// than itself: no larger alignment is met in it, so that a run depends on its seed alone and not on where the memory happens to lie.
 pub struct Memory {
     pub start: *mut u8,
+    len: usize,
 }
 
 impl Memory {
-    fn layout() -> Layout {
-        Layout::from_size_align(STEP + ARENA + 16, 2 * STEP).unwrap()
+    fn step(len: usize) -> usize {
+        (len + 16).next_power_of_two().max(1 << 20)
     }
 
-    pub fn new() -> Memory {
-        let whole = unsafe { std::alloc::alloc(Memory::layout()) };
+    fn layout(len: usize) -> Layout {
+        Layout::from_size_align(Memory::step(len) + len + 16, 2 * Memory::step(len)).unwrap()
+    }
+
+    pub fn new(len: usize) -> Memory {
+        let whole = unsafe { std::alloc::alloc(Memory::layout(len)) };
         assert!(!whole.is_null());
-        Memory { start: unsafe { whole.add(STEP) } }
+        Memory { start: unsafe { whole.add(Memory::step(len)) }, len }
     }
 
     pub fn bytes(&mut self, from: usize, len: usize) -> &mut [u8] {
@@ -30,7 +36,7 @@ impl Memory {
 
 impl Drop for Memory {
     fn drop(&mut self) {
-        unsafe { std::alloc::dealloc(self.start.sub(STEP), Memory::layout()) }
+        unsafe { std::alloc::dealloc(self.start.sub(Memory::step(self.len)), Memory::layout(self.len)) }
     }
 }
 

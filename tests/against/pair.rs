@@ -24,6 +24,31 @@ impl Held {
     }
 }
 
+/// What our words and heads are if the holes are these, each head with its place: its size and the next place, all ones if there is none.
+fn as_ours(ours: &Lantern, holes: &[(u64, u64)], used: u64) -> ([u64; 7], Vec<(usize, [u8; 16])>) {
+    let place = |k: usize| holes.get(k).map_or(u64::MAX, |hole| hole.0 - ours.words[0]);
+    let mut words = ours.words;
+    words[4] = place(0);
+    words[6] = used;
+    let head = |k: usize| {
+        let mut bytes = [0; 16];
+        bytes[..8].copy_from_slice(&holes[k].1.to_le_bytes());
+        bytes[8..].copy_from_slice(&place(k + 1).to_le_bytes());
+        (place(k) as usize, bytes)
+    };
+    (words, (0..holes.len()).map(head).collect())
+}
+
+/// A list is written into our arena, as the frees that lead to it would leave it. Each call of ours reads every head, so that it would take
+/// time with the square of the holes to make them by frees.
+pub fn carry(ours: &mut Lantern, holes: &[(u64, u64)], used: u64) {
+    let (words, heads) = as_ours(ours, holes, used);
+    ours.words = words;
+    for (at, head) in heads {
+        ours.arena[at..at + 16].copy_from_slice(&head);
+    }
+}
+
 /// The original and ours, opened alike.
 pub struct Pair<'a> {
     pub heap: Heap,
@@ -55,8 +80,15 @@ impl<'a> Pair<'a> {
         let mut heap = Heap::empty();
         unsafe { heap.init(memory.start.add(residue), named) };
         same("opening", Ok((heap.bottom() as u64, heap.size() as u64)), answer);
-        let rows = (vec![0; 2049], vec![0; 2049]);
+        // holes and the blocks between them have 16 bytes each, at least
+        let most = len / 32 + 1;
+        let rows = (vec![0; most], vec![0; most]);
         Some(Pair { heap, memory, residue, base, len, given: named, ours, held: Vec::new(), rows, before: Vec::new() })
+    }
+
+    /// Whether a place needs more than two bytes.
+    fn is_far(&self, addr: u64) -> bool {
+        addr - self.base >= 1 << 16
     }
 
     pub fn original_holes(&self) -> Vec<(u64, u64)> {
@@ -103,15 +135,45 @@ impl<'a> Pair<'a> {
         self.compare_room(1, holes.len() as u64, counts);
         self.compare_room(any_align(aligns), holes.len() as u64, counts);
         same("room: the original's holes after the tries", &holes, &self.original_holes());
+        self.compare_numbers();
+        counts.lists += 1;
+        counts.holes += holes.len() as u64;
+        counts.most = counts.most.max(holes.len() as u64);
+        counts.long += (holes.len() > 1 << 16) as u64;
+        counts.far_first += holes.first().is_some_and(|hole| self.is_far(hole.0)) as u64;
+    }
+
+    /// What can be told of both without their lists.
+    pub fn compare_numbers(&self) {
         same("bottom", self.heap.bottom() as u64, self.ours.bottom());
         same("top", self.heap.top() as u64, self.ours.top());
         same("size", self.heap.size() as u64, self.ours.size());
         same("used", self.heap.used() as u64, self.ours.used());
         same("free bytes", self.heap.free() as u64, self.ours.free_bytes());
         same("pending", self.heap.read_pending() as u64, self.ours.words[5]);
-        counts.lists += 1;
-        counts.holes += holes.len() as u64;
-        counts.most = counts.most.max(holes.len() as u64);
+    }
+
+    /// Our words and the bytes of our heads are those of the original's list.
+    pub fn compare_heads(&self) {
+        let (words, heads) = as_ours(&self.ours, &self.original_holes(), self.heap.used() as u64);
+        same("words", words, self.ours.words);
+        for (at, head) in heads {
+            same("head", head, self.ours.arena[at..at + 16].try_into().unwrap());
+        }
+    }
+
+    /// The original alone gets a block back. Ours is to be told of it by `carry`, before its next call.
+    pub fn free_on_original(&mut self, i: usize) {
+        let b = self.held.swap_remove(i);
+        let layout = Layout::from_size_align(b.size as usize, b.align as usize).unwrap();
+        unsafe { self.heap.deallocate(NonNull::new(b.addr as *mut u8).unwrap(), layout) };
+    }
+
+    /// The original's list is written into our arena.
+    pub fn carry(&mut self, counts: &mut Counts) {
+        let holes = self.original_holes();
+        carry(&mut self.ours, &holes, self.heap.used() as u64);
+        counts.carried += 1;
     }
 
     /// Every byte of every held block is what was written there, on both sides.
@@ -172,6 +234,7 @@ impl<'a> Pair<'a> {
                 self.held.push(held);
                 self.stamp(held);
                 counts.grants += 1;
+                counts.far += self.is_far(addr) as u64;
             }
             Err(()) => {
                 // the original does not say which: a layout that overflows when rounded is 6, else there is no room
@@ -195,6 +258,7 @@ impl<'a> Pair<'a> {
         unsafe { self.heap.deallocate(NonNull::new(b.addr as *mut u8).unwrap(), layout) };
         let rounded = b.span() as u64;
         same("free", Ok((rounded, self.heap.used() as u64)), self.ours.free(b.addr, b.size, b.align));
+        counts.far += self.is_far(b.addr) as u64;
     }
 
     /// The stretch of a held block by the original's list: the block plus the hole that touches its end, whose place is told too.
@@ -275,6 +339,7 @@ impl<'a> Pair<'a> {
         self.held[i].size = new;
         self.stamp(self.held[i]);
         counts.resizes += 1;
+        counts.far += self.is_far(b.addr) as u64;
     }
 
     pub fn extend(&mut self, by: usize, counts: &mut Counts) {

@@ -19,6 +19,20 @@ pub struct Counts {
     pub rooms: u64,
     pub bytes: u64,
     pub runs: u64,
+    /// Grants, frees and resizes at places from 65,536 on.
+    pub far: u64,
+    /// Lists in which the first hole lies there.
+    pub far_first: u64,
+    /// Lists of more than 65,536 holes.
+    pub long: u64,
+    /// Lists that were written into our arena.
+    pub carried: u64,
+    /// The most holes that calls of both sides made.
+    pub built: u64,
+    /// Runs on the largest arena.
+    pub largest: u64,
+    /// Calls by chance, after the holes are made.
+    pub by_chance: u64,
 }
 
 impl Counts {
@@ -42,6 +56,14 @@ impl Counts {
             self.most,
             self.rooms,
             self.bytes
+        );
+    }
+
+    /// What only large arenas have.
+    pub fn print_far(&self) {
+        println!(
+            "of these: {} runs on the largest arena; {} calls by chance; {} grants, frees and resizes at places from 65,536 on; {} lists with no hole below, {} lists of more than 65,536 holes; {} holes made by frees of both sides, {} lists carried over",
+            self.largest, self.by_chance, self.far, self.far_first, self.long, self.built, self.carried
         );
     }
 }

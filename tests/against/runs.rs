@@ -16,7 +16,7 @@ fn random_size(rng: &mut Rng, len: u64) -> u64 {
 }
 
 /// A new size for a block of `span` bytes: near it, near its stretch, below it, somewhat above, or any.
-fn new_size(rng: &mut Rng, span: u64, stretch: u64, len: u64) -> u64 {
+pub fn new_size(rng: &mut Rng, span: u64, stretch: u64, len: u64) -> u64 {
     match rng.below(8) {
         0 => random_size(rng, len),
         1 | 2 => (span + 32).saturating_sub(rng.below(64)),
@@ -54,7 +54,7 @@ pub fn run(seed: u64, calls: u64) -> Counts {
     let mut rng = Rng(if seed == 0 { 0x9e37_79b9_7f4a_7c15 } else { seed });
     let mut aligns = aligns_of(seed);
     let mut counts = Counts::default();
-    let mut memory = Memory::new();
+    let mut memory = Memory::new(ARENA);
     let mut space = vec![0u8; ARENA];
     most_holes(&mut memory, &mut space, &mut aligns, &mut counts);
     while counts.calls < calls {

@@ -106,7 +106,7 @@ impl Scribe {
 pub fn sample(seed: u64, lines: u64) {
     let mut rng = Rng(seed | 1);
     let mut aligns = aligns_of(seed);
-    let mut memory = Memory::new();
+    let mut memory = Memory::new(ARENA);
     let nominal = 0x10_0000u64 + 5;
     let real = memory.start as u64 + 5;
     noise(memory.bytes(0, ARENA + 16), &mut rng);

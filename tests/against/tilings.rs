@@ -30,7 +30,7 @@ pub fn exhaustive(most: usize) -> Counts {
     let mut counts = Counts::default();
     let mut rng = Rng(7);
     let mut aligns = aligns_of(7);
-    let mut memory = Memory::new();
+    let mut memory = Memory::new(ARENA);
     let mut space = vec![0u8; ARENA];
     for units in 2..=most {
         let mut all = Vec::new();
