@@ -26,6 +26,7 @@ mod pair;
 mod report;
 mod runs;
 mod sample;
+#[cfg(target_arch = "x86_64")]
 mod stack;
 mod tilings;
 
@@ -47,7 +48,10 @@ fn main() {
             bench::bench(number(2) as usize);
             return bench::bench_large(number(2) as usize);
         }
+        #[cfg(target_arch = "x86_64")]
         Some("stack") => return stack::stack(number(2) as usize),
+        #[cfg(not(target_arch = "x86_64"))]
+        Some("stack") => return println!("the stack of a call is measured on x86-64 only"),
         Some("trace") => {
             let (first, turns) = bench::trace(&args[2], number(4) as usize, 500);
             let (mut memory, mut space) = (Memory::new(ARENA), vec![0u8; ARENA]);
