@@ -1,7 +1,7 @@
 -- The demands hold: each proof at its statement. Assumes nothing.
 use Rattle.demands.specs.Demands.{Demands}
 use Rattle.demands.proofs.Weighed.{weighed}
-use Rattle.demands.proofs.LeftOut.{harmless}
+use Rattle.demands.proofs.LeftOut.{merges, harmless}
 use Rattle.rules.proofs.Unaltered.{nothing-loose}
 use Rattle.rules.proofs.Statements.{statements}
 use Rattle.demands.proofs.RunLaws.{follows-from-calls, side-by-side, never-unsound}
@@ -23,6 +23,7 @@ demands =
       heldIsFreed = held-is-freed;
       heldUntouched = held-untouched;
       nothingLoose = nothing-loose;
+      merges = merges;
       harmless = harmless;
       weighed = weighed;
       met = met;

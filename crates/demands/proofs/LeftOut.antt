@@ -1,26 +1,27 @@
--- `check_merge_top` and `check_merge_bottom` change no hole on shared ground. Assumes nothing.
+-- `check_merge_top` and `check_merge_bottom` do as the original's, and change no hole on shared ground. Assumes nothing.
 use mathlib.Core.Path.{_≡_, refl, _∙_}
-use mathlib.Core.Bool.{true, false}
+use mathlib.Core.Bool.{false}
 use mathlib.Core.List.{List, [], _∷_, _++_, List·Memᴰ·head, Memᴰ·append-right}
 use mathlib.Core.Logic.{inl, inr}
 use Prim.Native.Nat.{ℕ, _+_, _-_, _%_, _≤_}
 use native.Mathlib.Omega.{arith}
-use lib.Dec.{ltb}
-use borrow.Author.Tests.{lt-ltb, le-ltb}
+use borrow.Author.Tests.{lt-ltb, ltb-true}
 use Rattle.rules.specs.declared.Addr.{Addr}
 use Rattle.rules.specs.declared.Hole.{Hole}
 use Rattle.rules.specs.declared.Heap.{Heap}
 use Rattle.rules.specs.Fixed.{minSize, grain}
-use Rattle.rules.specs.Tests.{any}
-use Rattle.rules.specs.Kinds.{raised}
+use Rattle.rules.specs.Tests.{all, any}
+use Rattle.rules.specs.Round.{upTo}
+use Rattle.rules.specs.Kinds.{addr}
 use Rattle.rules.specs.Holes.{hole, end}
 use Rattle.rules.specs.Free.{joined, inFront, freed}
 use Rattle.rules.specs.Refusals.{refusal8}
 use Rattle.rules.specs.Calls.{renewed}
 use Rattle.rules.specs.InWords.{Gap, SoundHoles, Sound}
 use Rattle.rules.specs.Inner.{Rises}
-use Rattle.demands.specs.LeftOut.{toTop, checkMergeTop, toBottom, checkMergeBottom, Harmless}
-use Rattle.rules.proofs.Cases.{by-eq}
+use Rattle.demands.specs.LeftOut.{nearTop, toTop, checkMergeTop, nearBottom, toBottom, checkMergeBottom, TopMerged, BottomMerged, Merges, Harmless}
+use Rattle.rules.proofs.Cases.{by-eq, by-test, apart, all-each, each-all}
+use Rattle.rules.proofs.Multiples.{up-is, above-is}
 use Rattle.rules.proofs.Gaps.{eights-gap}
 use Rattle.rules.proofs.Rises.{rises-le, sound-rises}
 use Rattle.rules.proofs.Clear.{passed}
@@ -28,33 +29,105 @@ use Rattle.rules.proofs.Freed.{freed-step, joins-before}
 use Rattle.rules.proofs.FreeKept.{free-sound}
 use Rattle.rules.proofs.SoundWords.{words-fair, words-holes, holes-words}
 
+-- two of one address and one size are one
+is-addr : {a b : Addr} → a .0 ≡ b .0 → a ≡ b
+is-addr e = λ i. addr (e i)
+
+is-hole : {j k : Hole} → j .addr ≡ k .addr → j .size ≡ k .size → j ≡ k
+is-hole p q = λ i. hole (p i) (q i)
+
+-- ---- one node: what the original's lines do to it
+
+top-merged : (top : Addr) (k : Hole) → TopMerged top k (toTop top k)
+unfolding toTop
+top-merged top k =
+    by-test (TopMerged top k) (all (nearTop top k)) _ _
+    (λ e.
+    let r = all-each (nearTop top k) e in
+    record {
+      stays = refl;
+      past = λ p. absurd (omega (arith, ltb-true));
+      fits = λ x a f. absurd (omega (arith, ltb-true, above-is (omega arith) a));
+      grows = λ x o p a f q. omega (arith, ltb-true);
+    })
+    (λ e.
+    record {
+      stays = refl;
+      past = λ p. refl;
+      fits = λ x a f. refl;
+      grows =
+          λ x o p a f q.
+          let u = above-is (omega arith) a in
+          apart (each-all (nearTop top k) (omega (arith, lt-ltb))) e;
+    })
+
+bottom-merged : (bottom : Addr) (k : Hole) → BottomMerged bottom k (toBottom bottom k)
+unfolding toBottom
+bottom-merged bottom k =
+    by-test (BottomMerged bottom k) (all (nearBottom bottom k)) _ _
+    (λ e.
+    let r = all-each (nearBottom bottom k) e in
+    record { near = λ o n q. (refl, omega arith); far = λ f. absurd (omega (arith, ltb-true)) })
+    (λ e.
+    record { near = λ o n q. apart (each-all (nearBottom bottom k) (omega (arith, lt-ltb))) e; far = λ f. refl })
+
+-- ---- and to a list
+
+top-last : (top : Addr) (front : List Hole) (k : Hole) → checkMergeTop top (front ++ (k ∷ [])) ≡ front ++ (toTop top k ∷ [])
+unfolding checkMergeTop
+top-last top [] k = refl
+top-last top (j ∷ []) k = refl
+top-last top (j ∷ i ∷ front) k = rw (top-last top (i ∷ front) k)
+
+bottom-first : (bottom : Addr) (k : Hole) (back : List Hole) → checkMergeBottom bottom (k ∷ back) ≡ toBottom bottom k ∷ back
+unfolding checkMergeBottom
+bottom-first bottom k back = refl
+
+-- 8 bytes
+eight-to-top : (a s : ℕ) → toTop (addr (a + s + 8)) (hole (addr a) s) ≡ hole (addr a) (s + 8)
+eight-to-top a s =
+    let t = top-merged (addr (a + s + 8)) (hole (addr a) s) in
+    let u = up-is 8 (a + s) (omega arith) in
+    is-hole (t .stays) (t .grows (upTo 8 (a + s)) 8 (omega arith) u (omega (arith, u .above)) refl)
+
+eight-to-bottom : (a s : ℕ) → toBottom (addr a) (hole (addr (a + 8)) s) ≡ hole (addr a) (s + 8)
+eight-to-bottom a s =
+    let t = bottom-merged (addr a) (hole (addr (a + 8)) s) .near 8 (omega arith) refl in
+    is-hole (t .0) (t .1)
+
+pub merges : Merges
+unfolding checkMergeTop checkMergeBottom
+merges =
+    record {
+      last = λ top front k. (toTop top k, top-merged top k, top-last top front k);
+      first = λ bottom k back. (toBottom bottom k, bottom-merged bottom k, bottom-first bottom k back);
+      no-last = λ top. refl;
+      no-first = λ bottom. refl;
+      eight-to-top = λ a s front. rw (← eight-to-top a s) (top-last (addr (a + s + 8)) front (hole (addr a) s));
+      eight-to-bottom = λ a s back. rw (← eight-to-bottom a s) (bottom-first (addr a) (hole (addr (a + 8)) s) back);
+    }
+
 -- ---- one hole, by where it lies
 
 bottom-clear : (bottom : Addr) (k : Hole) → Gap (bottom .0) (k .addr .0) → toBottom bottom k ≡ k
-unfolding toBottom
 bottom-clear bottom k (inl e) =
-    let z : k .size + (k .addr .0 - bottom .0) ≡ k .size = omega arith in
-    let t : ltb (k .addr .0) (bottom .0 + minSize) ≡ true = lt-ltb (k .addr .0) (bottom .0 + minSize) (omega arith) in
-    rw (t, z, e)
-bottom-clear bottom k (inr l) = rw (le-ltb (k .addr .0) (bottom .0 + minSize) l)
+    let t = bottom-merged bottom k .near 0 (omega arith) (omega arith) in
+    is-hole (t .0 ∙ is-addr e) (omega (arith, t .1))
+bottom-clear bottom k (inr l) = bottom-merged bottom k .far l
 
 top-past : (top : Addr) (k : Hole) → top .0 ≤ end k .0 → toTop top k ≡ k
-unfolding toTop
-top-past top k l = rw (le-ltb (end k .0) (top .0) l)
+top-past top k l = let t = top-merged top k in is-hole (t .stays) (t .past l)
 
 top-clear : (top : Addr) (k : Hole) → end k .0 % grain ≡ 0 → Gap (end k .0) (top .0) → toTop top k ≡ k
-unfolding toTop
 top-clear top k e (inl q) = top-past top k (omega arith)
 top-clear top k e (inr l) =
-    let a : ltb (end k .0) (top .0) ≡ true = lt-ltb (end k .0) (top .0) (omega arith) in
-    let b : ltb (top .0) (raised grain (end k) .0 + minSize) ≡ false = le-ltb (top .0) (raised grain (end k) .0 + minSize) (omega arith) in
-    rw (a, b)
+    let t = top-merged top k in
+    is-hole (t .stays) (t .fits (upTo grain (end k .0)) (up-is grain (end k .0) (omega arith)) (omega arith))
 
 -- ---- the first and the last of a list
 
 first-clear : (bottom : Addr) (k : Hole) (ks : List Hole) → Gap (bottom .0) (k .addr .0) → checkMergeBottom bottom (k ∷ ks) ≡ k ∷ ks
-unfolding checkMergeBottom
-first-clear bottom k ks gap = rw (bottom-clear bottom k gap)
+first-clear bottom k ks gap = rw (bottom-first bottom k ks, bottom-clear bottom k gap)
 
 last-clear : (top : Addr) (ks : List Hole) → ((front : List Hole) (k : Hole) → ks ≡ front ++ (k ∷ []) → toTop top k ≡ k)
     → checkMergeTop top ks ≡ ks
@@ -65,10 +138,7 @@ last-clear top (k ∷ j ∷ ks) f = rw (last-clear top (j ∷ ks) (λ front i e.
 
 last-past : (top : Addr) (front : List Hole) (k : Hole) → top .0 ≤ end k .0
     → checkMergeTop top (front ++ (k ∷ [])) ≡ front ++ (k ∷ [])
-unfolding checkMergeTop
-last-past top [] k l = rw (top-past top k l)
-last-past top (j ∷ []) k l = rw (last-past top [] k l)
-last-past top (j ∷ i ∷ front) k l = rw (last-past top (i ∷ front) k l)
+last-past top front k l = rw (top-last top front k, top-past top k l)
 
 holes-bottom : (h : Heap) (ks : List Hole) → SoundHoles h ks → checkMergeBottom (h .bottom) ks ≡ ks
 unfolding checkMergeBottom

@@ -3,7 +3,7 @@
 use Rattle.rules.specs.Behaviour.{ours}
 use Rattle.rules.specs.Statements.{Statements, Determined, FollowsFromCalls, SideBySide, NeverUnsound, HeldTile, HeldIsFreed, HeldUntouched, NothingLoose}
 use Rattle.demands.specs.Frauds.{Frauds}
-use Rattle.demands.specs.LeftOut.{Harmless}
+use Rattle.demands.specs.LeftOut.{Merges, Harmless}
 use Rattle.demands.specs.Weighed.{Weighed}
 use Rattle.demands.specs.Premises.{Met}
 
@@ -18,6 +18,7 @@ pub record Demands : Type 0 where
   pub heldIsFreed : HeldIsFreed
   pub heldUntouched : HeldUntouched
   pub nothingLoose : NothingLoose
+  pub merges : Merges
   pub harmless : Harmless
   pub weighed : Weighed
   pub met : Met
