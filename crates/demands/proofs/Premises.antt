@@ -15,20 +15,23 @@ use Rattle.rules.specs.Holes.{hole, headAt, putHead, holesFrom, firstOf, putHea
 use Rattle.rules.specs.Sound.{unopened, soundNumbers, gap, lie, rise, leaveBefore, leaveAfter, soundHoles, sound, holes}
 use Rattle.rules.specs.Allocate.{rounded, candidate, suits, later, find, grantOf, largestGrant, remains, split}
 use Rattle.rules.specs.Free.{inFront, freed, overlaps, eightToHole}
-use Rattle.rules.specs.Calls.{allocate, refused, done, opened, taken, given, grown, gathered, extended, accepted}
+use Rattle.rules.specs.Resize.{stretchEnd, restInFront, resized}
+use Rattle.rules.specs.Calls.{allocate, refused, done, opened, taken, given, refitted, grown, gathered, extended, accepted}
 use Rattle.rules.specs.Readers.{readAddr}
 use Rattle.rules.specs.Refusals.{tests, unless}
 use Rattle.rules.specs.Answers.{answerNumbers}
 use Rattle.rules.specs.Outcome.{decided, outcome, leaves, after, over, inRows, leavesRows, rowsAfter}
-use Rattle.rules.specs.InWords.{Valid}
+use Rattle.rules.specs.InWords.{Valid, NoSpan}
 use Rattle.rules.specs.Behaviour.{ours, Good}
 use Rattle.rules.specs.Runs.{reading, Ask, Honest, start, sameBlock, without, heldAfter, boxAfter, nextBox, ends}
 use Rattle.demands.specs.Premises.{lent, story, unlike, writes, Boxes, OnGood, Met}
 use Rattle.rules.proofs.Cases.{apart}
 use Rattle.rules.proofs.Multiples.{down-is}
-use Rattle.rules.proofs.SoundWords.{rounded-rounds, is-left, words-numbers, sound-words, words-sound}
+use Rattle.rules.proofs.SoundWords.{rounded-rounds, is-left, words-numbers, words-fair, sound-words, words-sound}
 use Rattle.rules.proofs.TestWords.{no-start, no-span}
 use Rattle.rules.proofs.Suits.{nothing-room, found-room}
+use Rattle.rules.proofs.Walk.{floorOf, sound-walk}
+use Rattle.rules.proofs.ResizeWords.{no-stretch}
 use Rattle.demands.proofs.Played.{agree, headsAgree, keeps-kept, Move, moveOf, stirred, lawful, play}
 
 -- ---- two boxes
@@ -59,14 +62,14 @@ last =
 never {ℓ} : {X : Type ℓ} {r : Refusal} {a : Answer} {h : Heap} {ks : List Hole} → refused r ≡ done a h ks → X
 never e = let z : _≡_ {A = ℕ} 0 1 = cc in absurd (omega arith)
 
--- the two frees that are accepted name a held block, whatever comes after the story
+-- the two frees and the two resizes that are accepted name a held block, whatever comes after the story
 honest : (asks : List Ask) → Honest asks (ends story start) → Honest (story ++ asks) start
-unfolding onesIn firstOf total soundNumbers gap lie rise leaveBefore leaveAfter soundHoles sound rounded candidate suits later find grantOf largestGrant remains split inFront freed overlaps eightToHole opened taken given grown gathered extended accepted tests unless decided sameBlock without answerNumbers heldAfter boxAfter nextBox ends
+unfolding onesIn firstOf total soundNumbers gap lie rise leaveBefore leaveAfter soundHoles sound rounded candidate suits later find grantOf largestGrant remains split inFront freed overlaps eightToHole stretchEnd restInFront resized opened taken given refitted grown gathered extended accepted tests unless decided sameBlock without answerNumbers heldAfter boxAfter nextBox ends
 honest asks p =
-    (tt, (tt, (tt, (tt, (tt, (tt, (λ a h ks e. List·Memᴰ·tail (List·Memᴰ·head refl), (λ a h ks e. List·Memᴰ·head refl, (tt, (tt, (tt, (λ a h ks e. never e, (tt, (tt, (tt, (tt, (tt, (tt, (tt, (tt, p))))))))))))))))))))
+    (tt, (tt, (tt, (tt, (tt, (tt, (λ a h ks e. List·Memᴰ·tail (List·Memᴰ·head refl), (λ a h ks e. List·Memᴰ·head refl, (tt, (λ a h ks e. List·Memᴰ·head refl, (λ a h ks e. List·Memᴰ·head refl, (λ a h ks e. never e, (tt, (tt, (λ a h ks e. never e, (tt, (tt, (tt, (tt, (tt, (tt, (tt, (tt, p)))))))))))))))))))))))
 
 boxes : Boxes
-unfolding onesIn word store headAt putHead holesFrom firstOf putHeads total soundNumbers gap lie rise leaveBefore leaveAfter soundHoles sound holes rounded candidate suits later find grantOf largestGrant remains split inFront freed overlaps eightToHole opened taken given grown gathered extended accepted tests unless decided outcome leaves after over inRows leavesRows rowsAfter readAddr reading agree headsAgree lawful play unlike writes sameBlock without answerNumbers heldAfter boxAfter nextBox ends
+unfolding onesIn word store headAt putHead holesFrom firstOf putHeads total soundNumbers gap lie rise leaveBefore leaveAfter soundHoles sound holes rounded candidate suits later find grantOf largestGrant remains split inFront freed overlaps eightToHole stretchEnd restInFront resized opened taken given refitted grown gathered extended accepted tests unless decided outcome leaves after over inRows leavesRows rowsAfter readAddr reading agree headsAgree lawful play unlike writes sameBlock without answerNumbers heldAfter boxAfter nextBox ends
 boxes =
     let one = play 96 0xa1 moves unopened (noise 0xa0) refl in
     let two = play 96 0xc1 moves unopened (noise 0xc0) refl in
@@ -83,7 +86,7 @@ boxes =
       apart′ = refl;
       writesOne = refl;
       writesTwo = refl;
-      fits = omega arith;
+      fits = (tt, (omega arith, (omega arith, (omega arith, (omega arith, (omega arith, (omega arith, omega arith)))))));
       honest = honest [] tt;
       held = refl;
       written = w;
@@ -117,12 +120,15 @@ valid : (s align k : ℕ) → align ≡ 2 ^ k → align < 2 ^ 64 → rounded s +
 valid s align k e l m = record { fits = l; power = record { exponent = k; is = e }; rounds = rounded-rounds s; room = m }
 
 onGood : OnGood
-unfolding word store headAt putHead holesFrom firstOf putHeads total soundNumbers gap lie rise leaveBefore leaveAfter soundHoles sound holes rounded candidate suits later find overlaps eightToHole
+unfolding word store headAt putHead holesFrom firstOf putHeads total soundNumbers gap lie rise leaveBefore leaveAfter soundHoles sound holes rounded candidate suits later find overlaps eightToHole stretchEnd
 onGood =
     let m = putHeads (addr 0x1001) halves (noise 0xa0) in
     let eight = valid 24 8 3 refl (omega arith) (omega arith) in
     let large = valid 64 8 3 refl (omega arith) (omega arith) in
+    let block = valid 16 16 4 refl (omega arith) (omega arith) in
     let good : Good ours half m = (refl, sound-words half (holes half m) refl) in
+    let clear : NoSpan half halves 0x1020 16 16 → ⊥ = λ n. apart (no-span (addr 0x1020) 16 half halves 16 .1 n) refl in
+    let walk = sound-walk half (words-fair half (good .1 .0)) halves refl in
     record {
       heap = half;
       arena = m;
@@ -135,9 +141,22 @@ onGood =
         16,
         16,
         16,
-        valid 16 16 4 refl (omega arith) (omega arith),
-        λ n. apart (no-span (addr 0x1020) 16 half halves 16 .1 n) refl,
+        block,
+        clear,
         refl,
+      );
+      grownSpan = (
+        addr 0x1020,
+        16,
+        16,
+        40,
+        16,
+        40,
+        block,
+        valid 40 16 4 refl (omega arith) (omega arith),
+        omega arith,
+        clear,
+        λ n. apart (no-stretch half (hole (addr 0x1020) 16) (floorOf half halves) halves 40 walk .1 n) refl,
       );
       gathers = (4, omega arith, omega arith);
       grows = (14, 16, omega arith, omega arith, down-is 8 17 (omega arith));

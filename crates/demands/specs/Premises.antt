@@ -8,18 +8,18 @@ use lib.Dec.{eqb}
 use lib.ListN.{length, getD}
 use Rattle.rules.specs.declared.Addr.{Addr}
 use Rattle.rules.specs.declared.Heap.{Heap}
-use Rattle.rules.specs.declared.Refusal.the-variants.{BadOpening, AlreadyOpened, Unopened, OtherLength, BadLayout, NoRoom, BadSpan, PastArena}
+use Rattle.rules.specs.declared.Refusal.the-variants.{BadOpening, AlreadyOpened, Unopened, OtherLength, BadLayout, NoRoom, BadSpan, PastArena, BadStretch}
 use Rattle.rules.specs.declared.Answer.{Answer}
-use Rattle.rules.specs.declared.Answer.the-variants.{Opened, Allocated, Freed, Extended, Listed, Room, Refused}
+use Rattle.rules.specs.declared.Answer.the-variants.{Opened, Allocated, Freed, Resized, Extended, Listed, Room, Refused}
 use Rattle.rules.specs.Tests.{any}
 use Rattle.rules.specs.Round.{Below}
 use Rattle.rules.specs.Kinds.{addr}
 use Rattle.rules.specs.Holes.{hole}
 use Rattle.rules.specs.Sound.{unopened, holes}
-use Rattle.rules.specs.Calls.{Call, opening, allocate, free, extend, list, room}
+use Rattle.rules.specs.Calls.{Call, opening, allocate, free, resize, extend, list, room}
 use Rattle.rules.specs.Refusals.{refusal8}
 use Rattle.rules.specs.Outcome.{after, rows}
-use Rattle.rules.specs.InWords.{SoundNumbers, Sound, Valid, RoomAt, Left, NoStart, NoSpan}
+use Rattle.rules.specs.InWords.{SoundNumbers, Sound, Valid, RoomAt, Left, NoStart, NoSpan, NoStretch}
 use Rattle.rules.specs.Runs.{Reader, Ask, calls, reads, AllFit, Told, answers, says, Kept, Run, end, own, other, asked, Block, block, start, ends, Honest}
 use Rattle.rules.specs.Behaviour.{ours, Good}
 
@@ -45,8 +45,12 @@ story =
     ∷ lent 96 (allocate 20 8)
     ∷ lent 96 (free (addr 0x1008) 16 8)
     ∷ lent 96 (free (addr 0x1018) 20 8)
-    -- a grant in the middle of a hole; no room; no power of two; no multiple of 8
+    -- a grant in the middle of a hole; the block grows by all of the hole behind it, and shrinks again; 8 bytes would stay of that hole
     ∷ lent 96 (allocate 16 16)
+    ∷ lent 96 (resize (addr 0x1020) 16 16 40)
+    ∷ lent 96 (resize (addr 0x1020) 40 16 16)
+    ∷ lent 96 (resize (addr 0x1020) 16 16 32)
+    -- no room; no power of two; no multiple of 8
     ∷ lent 96 (allocate 64 8)
     ∷ lent 96 (allocate 8 3)
     ∷ lent 96 (free (addr 0x1024) 16 8)
@@ -74,6 +78,9 @@ replies =
     ∷ reply (Freed 16 24)
     ∷ reply (Freed 24 0)
     ∷ reply (Allocated (addr 0x1020) 1)
+    ∷ reply (Resized 40 40)
+    ∷ reply (Resized 16 16)
+    ∷ reply (Refused BadStretch)
     ∷ reply (Refused (NoRoom 2))
     ∷ reply (Refused BadLayout)
     ∷ reply (Refused BadSpan)
@@ -108,7 +115,7 @@ writes (asked run) = writes run
 -- all that they may write in the story: every byte while there is no hole, then every byte outside one head or two
 abbrev pub restless : List ℕ
 restless =
-    96 ∷ 96 ∷ 96 ∷ 80 ∷ 80 ∷ 80 ∷ 80 ∷ 64 ∷ 80 ∷ 64 ∷ 64 ∷ 64 ∷ 64 ∷ 64 ∷ 64 ∷ 64 ∷ 64 ∷ []
+    96 ∷ 96 ∷ 96 ∷ 80 ∷ 80 ∷ 80 ∷ 80 ∷ 64 ∷ 80 ∷ 64 ∷ 80 ∷ 64 ∷ 64 ∷ 64 ∷ 64 ∷ 64 ∷ 64 ∷ 64 ∷ 64 ∷ 64 ∷ []
 
 -- two boxes of which the story is true
 pub record Boxes : Type 0 where
@@ -130,7 +137,7 @@ pub record Boxes : Type 0 where
   pub writesTwo : writes runTwo ≡ restless
   -- every number is below 2^64
   pub fits : AllFit story
-  -- every accepted free names a block then held
+  -- every accepted free or resize names a block then held
   pub honest : Honest story start
   -- at the end one block is held
   pub held : ends story start .held ≡ granted ∷ []
@@ -163,6 +170,14 @@ pub record OnGood : Type 0 where
       × Valid s align r
       × (NoSpan heap (holes heap arena) (x .0) r align → ⊥)
       × (any (refusal8 heap (holes heap arena) (hole x r) align) ≡ false)
+  -- such a span that may also grow by all of the hole behind it: nothing stands against its stretch
+  pub grownSpan :
+      (x : Addr) × (s : ℕ) × (align : ℕ) × (n : ℕ) × (r : ℕ) × (q : ℕ)
+      × Valid s align r
+      × Valid n align q
+      × (r < q)
+      × (NoSpan heap (holes heap arena) (x .0) r align → ⊥)
+      × (NoStretch (holes heap arena) (x .0) r q → ⊥)
   -- bytes that only gather
   pub gathers : (by : ℕ) × (heap .top .0 + heap .pending + by ≤ heap .base .0 + heap .len) × (heap .pending + by < 16)
   -- and bytes that make it grow
@@ -181,7 +196,7 @@ pub record OnGood : Type 0 where
 pub record Met : Type 0 where
   -- for demand 3, memory, the readers, and what a call does or tells
   pub boxes : Boxes
-  -- for demand 2, free, extend, the reports, refusal 5, and what is left out
+  -- for demand 2, free, resize, extend, the reports, refusal 5, and what is left out
   pub onGood : OnGood
   -- for open: numbers that nothing stands against, with what they leave
   pub opens :

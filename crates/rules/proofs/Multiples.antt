@@ -38,10 +38,6 @@ down-is a x pos =
           λ y ey h. by-contra y (downTo a x) (λ k. omega (arith, multiples-apart a (downTo a x) y m ey k));
     }
 
--- x less its remainder, by whatever way that is found
-pub down-by : {a m : ℕ} (x : ℕ) → 0 < a → m ≡ x % a → Below a x (x - m)
-down-by {a} x pos e = rw e (down-is a x pos)
-
 pub below-is : {a x r : ℕ} → 0 < a → Below a x r → r ≡ downTo a x
 below-is {a} {x} {r} pos p =
     let q = down-is a x pos in

@@ -9,7 +9,6 @@ use lib.ListN.{length}
 use borrow.Author.Tests.{not-false}
 use Rattle.rules.specs.declared.Hole.{Hole}
 use Rattle.rules.specs.declared.Heap.{Heap}
-use Rattle.rules.specs.declared.Refusal.{Refusal}
 use Rattle.rules.specs.declared.Refusal.the-variants.{Unopened, OtherLength, NotSound, BadLayout, NoRoom}
 use Rattle.rules.specs.declared.Answer.{Answer}
 use Rattle.rules.specs.Fixed.{minSize}
@@ -25,7 +24,7 @@ use Rattle.rules.specs.Outcome.{decided, outcome}
 use Rattle.rules.specs.InWords.{Rounds, RoomAt, NoLayout, NoSpan, NoStretch}
 use Rattle.rules.specs.Runs.{Fits}
 use Rattle.rules.specs.Behaviour.{ours}
-use Rattle.rules.specs.Statements.{Row, Decides, changeRows, reportRows, refusalsOf, RefusalsExactly}
+use Rattle.rules.specs.Statements.{Row, Decides, row, changeRows, reportRows, refusalsOf, RefusalsExactly}
 use Rattle.rules.proofs.Cases.{cases, by-test, or-left}
 use Rattle.rules.proofs.Layouts.{layout-passed}
 use Rattle.rules.proofs.Decide.{one-test}
@@ -37,9 +36,6 @@ use Rattle.rules.proofs.ResizeWords.{no-stretch}
 use Rattle.rules.proofs.Passes.{Passes}
 
 -- ---- rows of words against lists of tests
-
-abbrev row : Refusal → Type 0 → Row
-row r t = record { gives = r; «exactly-if» = t }
 
 -- each row refuses as its test does, and for what its test means
 abbrev Meets : List Row → List Test → Type 0
