@@ -2,30 +2,31 @@
 -- where demand 2 says, and a resize leaves what its statement says. Assumes nothing.
 use mathlib.Core.Path.{_≡_, sym, ap, subst, _∙_}
 use mathlib.Core.List.{List, _∷_, _++_, List·Memᴰ}
-use Prim.Native.Nat.{ℕ, _+_, _-_, _≤_}
+use mathlib.Core.Logic.{inr, ⊎-elim}
+use Prim.Native.Nat.{ℕ, _+_, _-_, _^_, _≤_}
 use native.Mathlib.Omega.{arith}
 use lib.ListN.{length, getD}
 use Rattle.rules.specs.declared.Addr.{Addr}
 use Rattle.rules.specs.declared.Hole.{Hole}
 use Rattle.rules.specs.declared.Heap.{Heap}
 use Rattle.rules.specs.declared.Refusal.{Refusal}
-use Rattle.rules.specs.declared.Refusal.the-variants.{AlreadyOpened, OtherLength, NotSound}
+use Rattle.rules.specs.declared.Refusal.the-variants.{AlreadyOpened, OtherLength, NotSound, BadLayout}
 use Rattle.rules.specs.declared.Answer.{Answer}
 use Rattle.rules.specs.declared.Answer.the-variants.{Allocated, Refused}
 use Rattle.rules.specs.Kinds.{addr}
 use Rattle.rules.specs.Sound.{holes}
 use Rattle.rules.specs.Allocate.{rounded}
-use Rattle.rules.specs.Changes.{Report}
-use Rattle.rules.specs.Calls.{Call, opening, change, report, allocate, resize, list, Outcome, refused, told, done, accepted}
+use Rattle.rules.specs.Changes.{Change, Report}
+use Rattle.rules.specs.Calls.{Call, opening, change, report, allocate, free, resize, list, Outcome, refused, told, done, accepted}
 use Rattle.rules.specs.Outcome.{outcome}
 use Rattle.rules.specs.InWords.{SoundHoles, Rounds, Valid, sum, Lies, RoomAt, Within, NoLayout, NoSpan, NoStretch}
 use Rattle.rules.specs.Runs.{Fits}
 use Rattle.rules.specs.Behaviour.{Behaviour, ours}
 use Rattle.rules.specs.Statements.{Granted, Refitted, Statements, refusalsOf}
-use Rattle.demands.specs.Frauds.{Grant, UsedHole, Resizing, left, holesBefore, holesAfter}
+use Rattle.demands.specs.Frauds.{Wraps, Grant, UsedHole, Resizing, left, holesBefore, holesAfter}
 use Rattle.rules.proofs.Cases.{by-eq}
 use Rattle.rules.proofs.Passes.{by-decided, Plain, by-change}
-use Rattle.rules.proofs.SoundWords.{rounds-rounded}
+use Rattle.rules.proofs.SoundWords.{rounded-rounds, rounds-rounded}
 use Rattle.rules.proofs.TestWords.{no-layout}
 use Rattle.rules.proofs.Statements.{statements}
 use Rattle.demands.proofs.OneList.{one-place}
@@ -52,6 +53,10 @@ outcome-accepts : (c : Call) (h : Heap) (m : List ℕ) → Accepts (outcome c h 
 unfolding outcome
 outcome-accepts c h m =
     by-decided Accepts c (length m) h (holes h m) (λ r. tt) (λ p. accepted-accepts c (length m) h (holes h m))
+
+-- a size to which 7 cannot be added in 64 bits is too large for any alignment
+too-large : (s align : ℕ) → 2 ^ 64 ≤ s + 7 → NoLayout s align
+too-large s align w = inr (rounded s, rounded-rounds s, omega (arith, w, rounded-rounds s .covers))
 
 module _ (b : Behaviour) (sb : Statements b) where
   pub refused-of : (c : Call) (h : Heap) (m : List ℕ) (r : Refusal) → Fits c → b .after c h m .answer ≡ Refused r
@@ -87,6 +92,25 @@ module _ (b : Behaviour) (sb : Statements b) where
     tested (opening base named) f = (AlreadyOpened, sb .refusalsExactly (opening base named) h m f .0 open′)
     tested (change c) f = unsound (sb .refusalsExactly (change c) h m f)
     tested (report r) f = unsound (sb .refusalsExactly (report r) h m f)
+
+  -- a size that wraps is refused, whatever the heap and the memory
+  pub unwrapped : (c : Call) (h : Heap) (m : List ℕ) → Fits c → Wraps c → (r : Refusal) × (b .outcome c h m ≡ refused r)
+  unwrapped (opening base named) h m f w = absurd w
+  unwrapped (change (Change.allocate s align)) h m f w =
+      let d = sb .refusalsExactly (allocate s align) h m f in
+      entry b b sb sb h m (λ r p q. (r, p _ _ d)) (λ p q good good′ same. (BadLayout, p _ _ d .0 (too-large s align w)))
+  unwrapped (change (Change.free x s align)) h m f w =
+      let d = sb .refusalsExactly (free x s align) h m f in
+      entry b b sb sb h m (λ r p q. (r, p _ _ d)) (λ p q good good′ same. (BadLayout, p _ _ d .0 (too-large s align w)))
+  unwrapped (change (Change.resize x s align n)) h m f w =
+      let d = sb .refusalsExactly (resize x s align n) h m f in
+      entry b b sb sb h m (λ r p q. (r, p _ _ d))
+      (λ p q good good′ same.
+      decide (no-layout s align (f .2))
+      (λ t. (BadLayout, p _ _ d .0 t))
+      (λ t. (BadLayout, p _ _ d .1 t .0 (⊎-elim (λ l. absurd (t (too-large s align l))) (λ l. too-large n align l) w))))
+  unwrapped (change (Change.extend by)) h m f w = absurd w
+  unwrapped (report r) h m f w = absurd w
 
   -- ---- a grant
 

@@ -4,7 +4,8 @@ use Rattle.demands.proofs.Weighed.{weighed}
 use Rattle.demands.proofs.LeftOut.{merges, harmless}
 use Rattle.rules.proofs.Unaltered.{nothing-loose}
 use Rattle.rules.proofs.Statements.{statements}
-use Rattle.demands.proofs.RunLaws.{follows-from-calls, side-by-side, never-unsound}
+use Rattle.demands.proofs.RunLaws.{follows-from-calls, never-unsound}
+use Rattle.demands.proofs.TwoRuns.{side-by-side}
 use Rattle.demands.proofs.HeldRuns.{held-tile, held-is-freed, held-untouched}
 use Rattle.demands.proofs.Premises.{met}
 use Rattle.demands.proofs.Determined.{determined}

@@ -3,7 +3,7 @@
 use mathlib.Core.Path.{_≡_, refl, sym, ap, _∙_}
 use mathlib.Core.List.{List, [], _∷_, List·Memᴰ, List·Memᴰ·head, List·Memᴰ·tail, List·Memᴰ·not-nil, List·Memᴰ·cases-cons, Memᴰ·append-right}
 use mathlib.Core.Logic.{inl, inr, ⊎-elim}
-use Prim.Native.Nat.{ℕ, _+_, _-_, _≤_}
+use Prim.Native.Nat.{ℕ, _+_, _-_, _^_, _≤_}
 use native.Mathlib.Omega.{arith}
 use lib.ListN.{length, getD, getD-replicate}
 use Rattle.rules.specs.declared.Addr.{Addr}
@@ -23,7 +23,7 @@ use Rattle.rules.proofs.SoundWords.{rounds-rounded}
 use Rattle.demands.proofs.Premises.{noise, half, halves}
 use Rattle.demands.proofs.Settles.{noRows}
 use Rattle.demands.proofs.Determined.{by-outcome}
-use Rattle.demands.proofs.Caught.{refused-of, not-swapped, tested, granting, used-one, refitting}
+use Rattle.demands.proofs.Caught.{refused-of, not-swapped, tested, unwrapped, granting, used-one, refitting}
 use Rattle.demands.proofs.Culprits.{answering, leaving, writing, allBelow, early, passing, refits, granted, uses-low, low-room, round, refit, halves-sound}
 use Rattle.demands.proofs.Shown.{stage, stage-bytes, more, opens, shown, does, says, asked, askedMore, two, askedFree, saysFreed, empties, one, grantsAgain, growing, askedGrowing, saysResized, saysOpen}
 
@@ -74,6 +74,18 @@ frauds =
           )
           (λ b (c, h, m, f, open′, n, accepts) sb.
           let (r, e) = tested b sb h m open′ n c f in
+          accepts (r, sb .refusalsKeep c h m noRows r e .0));
+      wrappedSum =
+          shut (answering halves (Allocated (addr 0x1008) 1)) (
+            allocate (2 ^ 64 - 1) 8,
+            half,
+            stage,
+            omega arith,
+            omega arith,
+            (λ (r, e). let z : _≡_ {A = ℕ} 0 1 = cc in omega arith),
+          )
+          (λ b (c, h, m, f, w, accepts) sb.
+          let (r, e) = unwrapped b sb c h m f w in
           accepts (r, sb .refusalsKeep c h m noRows r e .0));
       refusedWrites =
           shut (writing (Refused NotSound) []) (

@@ -1,7 +1,8 @@
 -- The proofs of what is said of runs and of any behaviour, by subject. What is said call by call is proved in crate rules.
 
--- demand 3: runs
+-- demand 3: runs, and two side by side
 pub mod RunLaws
+pub mod TwoRuns
 -- demand 3: held blocks
 pub mod Tiling
 pub mod HeldKept

@@ -4,7 +4,7 @@ use mathlib.Core.List.{List, [], _∷_, _++_, map, List·Memᴰ·head, List·Mem
 use Prim.Native.Nat.{ℕ, _+_, _^_, _≤_, _<_}
 use native.Mathlib.Omega.{arith}
 use lib.Count.{onesIn}
-use lib.ListN.{getD, replicate, getD-replicate}
+use lib.ListN.{getD, take, drop, replicate, getD-replicate}
 use Rattle.rules.specs.declared.Hole.{Hole}
 use Rattle.rules.specs.declared.Heap.{Heap}
 use Rattle.rules.specs.declared.Refusal.{Refusal}
@@ -16,15 +16,16 @@ use Rattle.rules.specs.Sound.{unopened, soundNumbers, gap, lie, rise, leaveBefo
 use Rattle.rules.specs.Allocate.{rounded, candidate, suits, later, find, grantOf, largestGrant, remains, split}
 use Rattle.rules.specs.Free.{inFront, freed, overlaps, eightToHole}
 use Rattle.rules.specs.Resize.{stretchEnd, restInFront, resized}
-use Rattle.rules.specs.Calls.{allocate, refused, done, opened, taken, given, refitted, grown, gathered, extended, accepted}
+use Rattle.rules.specs.Calls.{Call, allocate, list, refused, done, opened, taken, given, refitted, grown, gathered, extended, accepted}
 use Rattle.rules.specs.Readers.{readAddr}
 use Rattle.rules.specs.Refusals.{tests, unless}
 use Rattle.rules.specs.Answers.{answerNumbers}
-use Rattle.rules.specs.Outcome.{decided, outcome, leaves, after, over, inRows, leavesRows, rowsAfter}
+use Rattle.rules.specs.Outcome.{decided, outcome, leaves, after, Rows, over, inRows, leavesRows, rowsAfter}
 use Rattle.rules.specs.InWords.{Valid, NoSpan}
 use Rattle.rules.specs.Behaviour.{ours, Good}
-use Rattle.rules.specs.Runs.{reading, Ask, Honest, start, sameBlock, without, heldAfter, boxAfter, nextBox, ends}
-use Rattle.demands.specs.Premises.{lent, story, unlike, writes, Boxes, OnGood, Met}
+use Rattle.rules.specs.Runs.{reading, Ask, calls, reads, Honest, start, sameBlock, without, heldAfter, boxAfter, nextBox, ends}
+use Rattle.rules.specs.Statements.{SameAsks, asks-end, asks-call, asks-reader}
+use Rattle.demands.specs.Premises.{lent, story, rowsOne, rowsTwo, unlike, writes, Boxes, OnGood, Met}
 use Rattle.rules.proofs.Cases.{apart}
 use Rattle.rules.proofs.Multiples.{down-is}
 use Rattle.rules.proofs.SoundWords.{rounded-rounds, is-left, words-numbers, words-fair, sound-words, words-sound}
@@ -43,8 +44,19 @@ noise x = replicate 96 x
 noise-apart : (x y : ℕ) → (x ≡ y → ⊥) → (i : ℕ) → i < 96 → getD (noise x) i 0 ≡ getD (noise y) i 0 → ⊥
 noise-apart x y n i l e = n (omega (arith, getD-replicate 96 i x 0 l, getD-replicate 96 i y 0 l))
 
-abbrev moves : List Move
-moves = map (moveOf 96) story
+abbrev moves : Rows → List Move
+moves r = map (moveOf 96) (story r)
+
+-- one call among others may be lent other rows
+alike : (asks : List Ask) → SameAsks asks asks
+alike [] = asks-end
+alike (calls c r n ∷ asks) = asks-call c r r n (alike asks)
+alike (reads x ∷ asks) = asks-reader x (alike asks)
+
+alike-but : (front back : List Ask) (c : Call) (r₁ r₂ : Rows) (n : ℕ) → SameAsks (front ++ (calls c r₁ n ∷ back)) (front ++ (calls c r₂ n ∷ back))
+alike-but [] back c r₁ r₂ n = asks-call c r₁ r₂ n (alike back)
+alike-but (calls d r k ∷ front) back c r₁ r₂ n = asks-call d r r k (alike-but front back c r₁ r₂ n)
+alike-but (reads x ∷ front) back c r₁ r₂ n = asks-reader x (alike-but front back c r₁ r₂ n)
 
 -- the heap at the end
 abbrev last : Heap
@@ -63,7 +75,7 @@ never {ℓ} : {X : Type ℓ} {r : Refusal} {a : Answer} {h : Heap} {ks : List Ho
 never e = let z : _≡_ {A = ℕ} 0 1 = cc in absurd (omega arith)
 
 -- the two frees and the two resizes that are accepted name a held block, whatever comes after the story
-honest : (asks : List Ask) → Honest asks (ends story start) → Honest (story ++ asks) start
+honest : (asks : List Ask) → Honest asks (ends (story rowsOne) start) → Honest (story rowsOne ++ asks) start
 unfolding onesIn firstOf total soundNumbers gap lie rise leaveBefore leaveAfter soundHoles sound rounded candidate suits later find grantOf largestGrant remains split inFront freed overlaps eightToHole stretchEnd restInFront resized opened taken given refitted grown gathered extended accepted tests unless decided sameBlock without answerNumbers heldAfter boxAfter nextBox ends
 honest asks p =
     (tt, (tt, (tt, (tt, (tt, (tt, (λ a h ks e. List·Memᴰ·tail (List·Memᴰ·head refl), (λ a h ks e. List·Memᴰ·head refl, (tt, (λ a h ks e. List·Memᴰ·head refl, (λ a h ks e. List·Memᴰ·head refl, (λ a h ks e. never e, (tt, (tt, (λ a h ks e. never e, (tt, (tt, (tt, (tt, (tt, (tt, (tt, (tt, p)))))))))))))))))))))))
@@ -71,8 +83,8 @@ honest asks p =
 boxes : Boxes
 unfolding onesIn word store headAt putHead holesFrom firstOf putHeads total soundNumbers gap lie rise leaveBefore leaveAfter soundHoles sound holes rounded candidate suits later find grantOf largestGrant remains split inFront freed overlaps eightToHole stretchEnd restInFront resized opened taken given refitted grown gathered extended accepted tests unless decided outcome leaves after over inRows leavesRows rowsAfter readAddr reading agree headsAgree lawful play unlike writes sameBlock without answerNumbers heldAfter boxAfter nextBox ends
 boxes =
-    let one = play 96 0xa1 moves unopened (noise 0xa0) refl in
-    let two = play 96 0xc1 moves unopened (noise 0xc0) refl in
+    let one = play 96 0xa1 (moves rowsOne) unopened (noise 0xa0) refl in
+    let two = play 96 0xc1 (moves rowsTwo) unopened (noise 0xc0) refl in
     let w = stirred 96 0xb8 last (one .arena) in
     record {
       one = noise 0xa0;
@@ -80,6 +92,7 @@ boxes =
       one′ = one .arena;
       two′ = two .arena;
       heap = last;
+      asked = alike-but (take 20 (story rowsOne)) (drop 21 (story rowsOne)) list rowsOne rowsTwo 96;
       runOne = one .run;
       runTwo = two .run;
       apart = noise-apart 0xa0 0xc0 (omega arith);

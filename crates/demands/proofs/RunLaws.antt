@@ -25,7 +25,7 @@ use Rattle.rules.specs.Refusals.{Test, changeTests, reportTests, tests, unless}
 use Rattle.rules.specs.Outcome.{decided, outcome, leaves, after, Rows, rowsAfter}
 use Rattle.rules.specs.InWords.{Sound}
 use Rattle.rules.specs.Runs.{Fits, Reader, reading, Ask, calls, reads, AllFit, Told, answers, says, Kept, Run, end, own, other, asked, Box, start, comesTo, boxAfter, answerOf, nextBox, tellBox, tells, ends}
-use Rattle.rules.specs.Statements.{FollowsFromCalls, SideBySide, NeverUnsound}
+use Rattle.rules.specs.Statements.{FollowsFromCalls, NeverUnsound}
 use Rattle.rules.proofs.Cases.{cases, by-eq, by-test, apart}
 use Rattle.rules.proofs.Lists.{SameHeads, frame}
 use Rattle.rules.proofs.Decide.{unless-3, unless-4, rest, Opens, decided-later}
@@ -158,12 +158,6 @@ pub follows-from-calls : FollowsFromCalls
 follows-from-calls asks m ts h m′ fit run =
     let t = run-follows start (fresh m) fit run in
     (t .0, t .1 .heap, t .1 .holes)
-
-pub side-by-side : SideBySide
-side-by-side asks m₁ m₂ ts₁ ts₂ h₁ h₂ m₁′ m₂′ fit run₁ run₂ =
-    let p = follows-from-calls asks m₁ ts₁ h₁ m₁′ fit run₁ in
-    let q = follows-from-calls asks m₂ ts₂ h₂ m₂′ fit run₂ in
-    (p .0 ∙ sym (q .0), p .1 ∙ sym (q .1), p .2 ∙ sym (q .2))
 
 -- ---- the box of the calls alone: unopened as at the start, or sound
 

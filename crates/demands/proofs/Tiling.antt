@@ -123,14 +123,15 @@ vacant-occupied bs y (k, m, w) =
     let t = Memᴰ·of-map span bs m in
     (t .0, t .1, rounded (t .0 .size), rounded-rounds (t .0 .size), rw (← t .2) at w)
 
-spans-append : (y : ℕ) (xs ys : List Block) → cover y (spans (xs ++ ys)) ≡ cover y (spans xs) + cover y (spans ys)
-spans-append y xs ys = rw (map-append span xs ys) (added-append (once y) (spans xs) (spans ys))
-
-spans-two : (y : ℕ) (front mid back : List Block) (c d : Block)
-    → once y (span c) + once y (span d) ≤ cover y (spans (front ++ (c ∷ (mid ++ (d ∷ back)))))
+-- two of a list
+pair-cover : (y : ℕ) (front mid back : List Hole) (j k : Hole) → once y j + once y k ≤ cover y (front ++ (j ∷ (mid ++ (k ∷ back))))
 unfolding added
-spans-two y front mid back c d =
-    omega (arith, spans-append y front (c ∷ (mid ++ (d ∷ back))), spans-append y mid (d ∷ back))
+pair-cover y front mid back j k =
+    omega (arith, added-append (once y) front (j ∷ (mid ++ (k ∷ back))), added-append (once y) mid (k ∷ back))
+
+spans-pair : (front mid back : List Block) (c d : Block)
+    → spans (front ++ (c ∷ (mid ++ (d ∷ back)))) ≡ spans front ++ (span c ∷ (spans mid ++ (span d ∷ spans back)))
+spans-pair front mid back c d = rw (map-append span front (c ∷ (mid ++ (d ∷ back))), map-append span mid (d ∷ back))
 
 module _ (b : Box) (filled : Filled b) where
   pub filled-apart : (y : ℕ) → Vacant (b .holes) y → Vacant (spans (b .held)) y → ⊥
@@ -163,13 +164,23 @@ module _ (b : Box) (filled : Filled b) where
             (λ v. filled-inside y (omega (arith, filled y, vacant-cover y (spans (b .held)) (occupied-vacant (b .held) y v))));
         gapless = λ y l m. filled-somewhere y (omega arith);
         apart = λ y v w. filled-apart y v (occupied-vacant (b .held) y w);
-        disjoint =
-            λ front mid back c d e y r q m n v w.
+        holesApart =
+            λ front mid back j k e y v w.
             omega (
               arith,
               rw e at (filled y),
               once-most y (range (b .heap)),
-              spans-two y front mid back c d,
+              pair-cover y front mid back j k,
+              once-in y j v,
+              once-in y k w,
+            );
+        disjoint =
+            λ front mid back c d e y r q m n v w.
+            omega (
+              arith,
+              rw (e, spans-pair front mid back c d) at (filled y),
+              once-most y (range (b .heap)),
+              pair-cover y (spans front) (spans mid) (spans back) (span c) (span d),
               once-in y (span c) (rw (← rounds-rounded m) v),
               once-in y (span d) (rw (← rounds-rounded n) w),
             );

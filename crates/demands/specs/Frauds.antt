@@ -3,7 +3,7 @@
 use mathlib.Core.Path.{_≡_}
 use mathlib.Core.List.{List, _∷_, _++_, List·Memᴰ}
 use mathlib.Core.Logic.{_⊎_}
-use Prim.Native.Nat.{ℕ, _+_, _-_, _≤_, _<_}
+use Prim.Native.Nat.{ℕ, _+_, _-_, _^_, _≤_, _<_}
 use lib.ListN.{length, getD}
 use Rattle.rules.specs.declared.Addr.{Addr}
 use Rattle.rules.specs.declared.Hole.{Hole}
@@ -12,7 +12,8 @@ use Rattle.rules.specs.declared.Refusal.{Refusal}
 use Rattle.rules.specs.declared.Refusal.the-variants.{OtherLength, NotSound}
 use Rattle.rules.specs.declared.Answer.the-variants.{Opened, Allocated, Freed, Resized, Extended, Listed, Room, Refused}
 use Rattle.rules.specs.Kinds.{addr}
-use Rattle.rules.specs.Calls.{Call, opening, allocate, free, resize, extend, list, room}
+use Rattle.rules.specs.Changes.{Change}
+use Rattle.rules.specs.Calls.{Call, opening, change, report, allocate, free, resize, extend, list, room}
 use Rattle.rules.specs.Outcome.{After}
 use Rattle.rules.specs.InWords.{endOf, sum, Sound, number, Rounds, RoomAt, Within, Vacant, StretchEnds}
 use Rattle.rules.specs.Runs.{Fits}
@@ -35,6 +36,15 @@ Asked b c h m = Made c m × Good b h m
 
 abbrev pub Refuses : Behaviour → Call → Heap → List ℕ → Type 0
 Refuses b c h m = (r : Refusal) × (b .after c h m .answer ≡ Refused r)
+
+-- a size that the call rounds is so near to 2^64 that it and 7, added in 64 bits, wrap around to less than 7
+abbrev pub Wraps : Call → Type 0
+Wraps (opening base named) = ⊥
+Wraps (change (Change.allocate s align)) = 2 ^ 64 ≤ s + 7
+Wraps (change (Change.free x s align)) = 2 ^ 64 ≤ s + 7
+Wraps (change (Change.resize x s align n)) = (2 ^ 64 ≤ s + 7) ⊎ (2 ^ 64 ≤ n + 7)
+Wraps (change (Change.extend by)) = ⊥
+Wraps (report r) = ⊥
 
 -- a grant
 pub record Grant (b : Behaviour) : Type 0 where
@@ -120,6 +130,9 @@ pub record Frauds : Type 0 where
       × (h .bottom .0 ≡ 0 → ⊥)
       × (sum (b .holes h m) + h .used ≡ h .top .0 - h .bottom .0 → ⊥)
       × (Refuses b c h m → ⊥))
+  -- once, a call is accepted whose size and 7 wrap around when they are added: the sum was tested when it had wrapped, as a small size
+  pub wrappedSum :
+      Caught (λ b. (c : Call) × (h : Heap) × (m : List ℕ) × Fits c × Wraps c × (Refuses b c h m → ⊥))
   -- once, a refused call changes heap or memory
   pub refusedWrites :
       Caught

@@ -18,10 +18,11 @@ use Rattle.rules.specs.Holes.{hole}
 use Rattle.rules.specs.Sound.{unopened, holes}
 use Rattle.rules.specs.Calls.{Call, opening, allocate, free, resize, extend, list, room}
 use Rattle.rules.specs.Refusals.{refusal8}
-use Rattle.rules.specs.Outcome.{after, rows}
+use Rattle.rules.specs.Outcome.{after, Rows, rows}
 use Rattle.rules.specs.InWords.{SoundNumbers, Sound, Valid, RoomAt, Left, NoStart, NoSpan, NoStretch}
 use Rattle.rules.specs.Runs.{Reader, Ask, calls, reads, AllFit, Told, answers, says, Kept, Run, end, own, other, asked, Block, block, start, ends, Honest}
 use Rattle.rules.specs.Behaviour.{ours, Good}
+use Rattle.rules.specs.Statements.{SameAsks}
 
 -- ---- a story: what is asked of a box of 96 bytes at 0x1001, and what it tells
 
@@ -33,8 +34,9 @@ lent n c = calls c (rows [] []) n
 abbrev pub reply : Answer → Told
 reply a = answers a (rows [] [])
 
-abbrev pub story : List Ask
-story =
+-- with these rows for its list
+abbrev pub story : Rows → List Ask
+story r =
     -- a list before the opening; an opening at 0; the opening, 7 bytes behind base; a second one
     lent 96 list
     ∷ lent 96 (opening (addr 0) 74)
@@ -62,13 +64,14 @@ story =
     ∷ lent 95 list
     ∷ lent 97 (room 8)
     -- the reports, and a reader
-    ∷ calls list (rows (1 ∷ 2 ∷ 3 ∷ []) (4 ∷ 5 ∷ 6 ∷ 7 ∷ [])) 96
+    ∷ calls list r 96
     ∷ lent 96 (room 32)
     ∷ reads Reader.top
     ∷ []
 
-abbrev pub replies : List Told
-replies =
+-- with those rows then
+abbrev pub replies : Rows → List Told
+replies r =
     reply (Refused Unopened)
     ∷ reply (Refused BadOpening)
     ∷ reply (Opened (addr 0x1008) 64)
@@ -89,10 +92,24 @@ replies =
     ∷ reply (Refused PastArena)
     ∷ reply (Refused OtherLength)
     ∷ reply (Refused OtherLength)
-    ∷ answers (Listed 2 64) (rows (0x1008 ∷ 0x1030 ∷ 3 ∷ []) (24 ∷ 40 ∷ 6 ∷ 7 ∷ []))
+    ∷ answers (Listed 2 64) r
     ∷ reply (Room 24 2)
     ∷ says 0x1059
     ∷ []
+
+-- the rows that the one box is lent, and the other: of other numbers, and more or fewer of them
+abbrev pub rowsOne : Rows
+rowsOne = rows (1 ∷ 2 ∷ 3 ∷ []) (4 ∷ 5 ∷ 6 ∷ 7 ∷ [])
+
+abbrev pub rowsTwo : Rows
+rowsTwo = rows (8 ∷ 9 ∷ 10 ∷ 11 ∷ []) (12 ∷ [])
+
+-- and as they are then: the second holds no more than one size, so it gets one address too
+abbrev pub thenOne : Rows
+thenOne = rows (0x1008 ∷ 0x1030 ∷ 3 ∷ []) (24 ∷ 40 ∷ 6 ∷ 7 ∷ [])
+
+abbrev pub thenTwo : Rows
+thenTwo = rows (0x1008 ∷ 9 ∷ 10 ∷ 11 ∷ []) (24 ∷ [])
 
 -- the block that is held at its end
 abbrev pub granted : Block
@@ -126,9 +143,10 @@ pub record Boxes : Type 0 where
   pub two′ : List ℕ
   -- the heap at the end
   pub heap : Heap
-  -- to the same asks both give the same replies
-  pub runOne : Run story unopened one replies heap one′
-  pub runTwo : Run story unopened two replies heap two′
+  -- to the same asks, but for the rows, both give the same replies
+  pub asked : SameAsks (story rowsOne) (story rowsTwo)
+  pub runOne : Run (story rowsOne) unopened one (replies thenOne) heap one′
+  pub runTwo : Run (story rowsTwo) unopened two (replies thenTwo) heap two′
   -- the memories differ at the start in every byte, at the end in every byte outside the two heads
   pub apart : (i : ℕ) → i < 96 → getD one i 0 ≡ getD two i 0 → ⊥
   pub apart′ : unlike one′ two′ ≡ 64
@@ -136,11 +154,11 @@ pub record Boxes : Type 0 where
   pub writesOne : writes runOne ≡ restless
   pub writesTwo : writes runTwo ≡ restless
   -- every number is below 2^64
-  pub fits : AllFit story
+  pub fits : AllFit (story rowsOne)
   -- every accepted free or resize names a block then held
-  pub honest : Honest story start
+  pub honest : Honest (story rowsOne) start
   -- at the end one block is held
-  pub held : ends story start .held ≡ granted ∷ []
+  pub held : ends (story rowsOne) start .held ≡ granted ∷ []
   -- more is written, outside the heads
   pub written : List ℕ
   pub kept : Kept heap one′ written
@@ -148,9 +166,9 @@ pub record Boxes : Type 0 where
   -- one more call writes: the head of what remains of a hole, and a byte of the head that leads there
   pub writesHead : unlike written (after (allocate 16 8) heap written .arena) ≡ 17
   -- it is honest too, and the block is held before and after it
-  pub honestMore : Honest (story ++ (lent (length written) (allocate 16 8) ∷ [])) start
-  pub heldBefore : List·Memᴰ granted (ends story start .held)
-  pub heldAfter : List·Memᴰ granted (ends (story ++ (lent (length written) (allocate 16 8) ∷ [])) start .held)
+  pub honestMore : Honest (story rowsOne ++ (lent (length written) (allocate 16 8) ∷ [])) start
+  pub heldBefore : List·Memᴰ granted (ends (story rowsOne) start .held)
+  pub heldAfter : List·Memᴰ granted (ends (story rowsOne ++ (lent (length written) (allocate 16 8) ∷ [])) start .held)
 
 -- ---- a good heap, and what may be asked of it
 

@@ -20,10 +20,10 @@ use Rattle.rules.specs.Sound.{holes}
 use Rattle.rules.specs.Allocate.{candidate, grantOf, largestGrant}
 use Rattle.rules.specs.Calls.{allocate, list, room, refused, accepted}
 use Rattle.rules.specs.Refusals.{unless}
-use Rattle.rules.specs.Outcome.{outcome, over, inRows, leavesRows, rowsAfter}
+use Rattle.rules.specs.Outcome.{outcome, Rows, over, inRows, leavesRows, rowsAfter}
 use Rattle.rules.specs.InWords.{endOf, Rounds, Valid, Lies}
 use Rattle.rules.specs.Behaviour.{ours, Good}
-use Rattle.rules.specs.Statements.{Granted, RoomDoes, ListDoes}
+use Rattle.rules.specs.Statements.{Granted, RoomDoes, rowAt, ListDoes}
 use Rattle.rules.proofs.Cases.{by-le, by-test, Some}
 use Rattle.rules.proofs.Multiples.{multiples-apart}
 use Rattle.rules.proofs.Powers.{power-pos}
@@ -186,23 +186,21 @@ module _ (f : Hole → ℕ) where
     listed-out : (i : ℕ) → min n (length ks) ≤ i → getD listed i 0 ≡ getD row i 0
     listed-out i l = over-out (take n (map f ks)) row i (omega (arith, taken-length))
 
+    listed-row : n ≤ length row → rowAt f ks n row listed
+    listed-row fits = (over-length (take n (map f ks)) row, λ front back k. listed-in front back k fits, listed-out)
+
+-- the holes in both rows
+pub in-rows : (ks : List Hole) (r : Rows)
+    → rowAt (λ k. k .addr .0) ks (min (length (r .addrs)) (length (r .sizes))) (r .addrs) (inRows ks r .addrs)
+    × rowAt (λ k. k .size) ks (min (length (r .addrs)) (length (r .sizes))) (r .sizes) (inRows ks r .sizes)
+unfolding inRows
+in-rows ks r =
+    let n = min (length (r .addrs)) (length (r .sizes)) in
+    (listed-row (λ k. k .addr .0) ks n (r .addrs) (omega arith), listed-row (λ k. k .size) ks n (r .sizes) (omega arith))
+
 pub list-does : ListDoes ours
-unfolding accepted unless rowsAfter leavesRows inRows
+unfolding accepted unless rowsAfter leavesRows
 list-does h m r g =
     let e = good-outcome list h m refl g in
-    let ks = holes h m in
-    let n = min (length (r .addrs)) (length (r .sizes)) in
-    let a : Hole → ℕ = λ k. k .addr .0 in
-    let s : Hole → ℕ = λ k. k .size in (
-      e,
-      rw e (
-        over-length (take n (map a ks)) (r .addrs),
-        λ front back k. listed-in a ks n (r .addrs) front back k (omega arith),
-        listed-out a ks n (r .addrs),
-      ),
-      rw e (
-        over-length (take n (map s ks)) (r .sizes),
-        λ front back k. listed-in s ks n (r .sizes) front back k (omega arith),
-        listed-out s ks n (r .sizes),
-      ),
-    )
+    let rows = in-rows (holes h m) r in
+    (e, rw e (rows .0), rw e (rows .1))

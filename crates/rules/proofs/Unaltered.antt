@@ -12,7 +12,7 @@ use Rattle.rules.specs.declared.Answer.{Answer}
 use Rattle.rules.specs.Sound.{holes}
 use Rattle.rules.specs.Changes.{Report}
 use Rattle.rules.specs.Calls.{Call, opening, change, report, list, Outcome, accepted}
-use Rattle.rules.specs.Outcome.{outcome, leaves, after, Rows, over, inRows, leavesRows, rowsAfter}
+use Rattle.rules.specs.Outcome.{decided, outcome, leaves, after, Rows, over, inRows, leavesRows, rowsAfter}
 use Rattle.rules.specs.Behaviour.{ours}
 use Rattle.rules.specs.Statements.{RefusalsKeep, TellsOnly, OtherRows, NothingLoose}
 use Rattle.rules.proofs.Calls.{answer-refused, answer-told, rows-refused}
@@ -53,9 +53,12 @@ module _ (r : Rows) where
       let k = min (length (r .addrs)) (length (r .sizes)) in
       rw (none-over k (r .addrs), none-over k (r .sizes))
 
+  pub rows-stay : (c : Call) (len : ℕ) (h : Heap) (ks : List Hole) → (c ≡ list → ⊥) → Stays (decided c len h ks)
+  rows-stay c len h ks n =
+      by-decided Stays c len h ks
+      (λ q. unfold leavesRows in refl)
+      (λ p. accepted-stays c len h ks n)
+
 pub other-rows : OtherRows ours
 unfolding rowsAfter outcome
-other-rows c h m r n =
-    by-decided (Stays r) c (length m) h (holes h m)
-    (λ q. unfold leavesRows in refl)
-    (λ p. accepted-stays r c (length m) h (holes h m) n)
+other-rows c h m r n = rows-stay r c (length m) h (holes h m) n

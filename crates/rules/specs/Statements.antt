@@ -24,7 +24,7 @@ use Rattle.rules.specs.Calls.{Call, opening, change, report, allocate, f
 use Rattle.rules.specs.Answers.{numbers, answerNumbers}
 use Rattle.rules.specs.Outcome.{Rows, after, Is, rowsAfter}
 use Rattle.rules.specs.InWords.{Valid, endOf, SoundNumbers, Sound, Hold, Rounds, Lies, RoomAt, Within, Vacant, Left, NoStart, NoLayout, NoSpan, NoStretch}
-use Rattle.rules.specs.Runs.{Fits, Reader, Ask, calls, AllFit, Told, Kept, Run, Block, Box, start, comesTo, tells, ends, Honest}
+use Rattle.rules.specs.Runs.{Fits, Reader, Ask, calls, reads, AllFit, Told, answers, says, Kept, Run, Block, Box, start, comesTo, tells, ends, Honest}
 use Rattle.rules.specs.Behaviour.{Behaviour, Good}
 
 -- ---- "A heap is sound if": the test that the calls make is the paper's rule
@@ -382,12 +382,56 @@ FollowsFromCalls =
     (asks : List Ask) (m : List ℕ) (ts : List Told) (h : Heap) (m′ : List ℕ) → AllFit asks → Run asks unopened m ts h m′
     → (ts ≡ tells asks start) × (h ≡ ends asks start .heap) × (holes h m′ ≡ ends asks start .holes)
 
+-- two are asked the same: only the rows that they are lent may differ, in their numbers and in how many they are
+pub data SameAsks : List Ask → List Ask → Type 0 where
+  asks-end : SameAsks [] []
+  asks-call :
+      (c : Call) (r₁ r₂ : Rows) (n : ℕ) {asks₁ asks₂ : List Ask} → SameAsks asks₁ asks₂
+      → SameAsks (calls c r₁ n ∷ asks₁) (calls c r₂ n ∷ asks₂)
+  asks-reader : (x : Reader) {asks₁ asks₂ : List Ask} → SameAsks asks₁ asks₂ → SameAsks (reads x ∷ asks₁) (reads x ∷ asks₂)
+
+-- how many numbers of each row a call writes: list as many as the first value of its answer, while the shorter row lasts; no other call any
+abbrev pub fills : Call → Answer → Rows → ℕ
+fills (opening base named) a r = 0
+fills (change c) a r = 0
+fills (report Report.list) a r = min (answerNumbers a .one) (min (length (r .addrs)) (length (r .sizes)))
+fills (report (Report.room align)) a r = 0
+
+-- the numbers that are written are the same, as far as both rows have them, and every other number of each row is as it was lent
+pub record SameRow (n₁ n₂ : ℕ) (lent₁ lent₂ row₁ row₂ : List ℕ) : Type 0 where
+  pub long₁ : length row₁ ≡ length lent₁
+  pub long₂ : length row₂ ≡ length lent₂
+  pub written : (i : ℕ) → i < n₁ → i < n₂ → getD row₁ i 0 ≡ getD row₂ i 0
+  pub rest₁ : (i : ℕ) → n₁ ≤ i → getD row₁ i 0 ≡ getD lent₁ i 0
+  pub rest₂ : (i : ℕ) → n₂ ≤ i → getD row₂ i 0 ≡ getD lent₂ i 0
+
+abbrev pub SameRows : Call → Answer → Rows → Rows → Rows → Rows → Type 0
+SameRows c a r₁ r₂ s₁ s₂ =
+    SameRow (fills c a r₁) (fills c a r₂) (r₁ .addrs) (r₂ .addrs) (s₁ .addrs) (s₂ .addrs)
+    × SameRow (fills c a r₁) (fills c a r₂) (r₁ .sizes) (r₂ .sizes) (s₁ .sizes) (s₂ .sizes)
+
+-- two are told the same: the same answer with such rows, or the same number
+pub data SameTold : List Ask → List Ask → List Told → List Told → Type 0 where
+  told-end : SameTold [] [] [] []
+  told-answer :
+      (c : Call) (r₁ r₂ s₁ s₂ : Rows) (n : ℕ) (a : Answer) {asks₁ asks₂ : List Ask} {ts₁ ts₂ : List Told} → SameRows c a r₁ r₂ s₁ s₂
+      → SameTold asks₁ asks₂ ts₁ ts₂
+      → SameTold (calls c r₁ n ∷ asks₁) (calls c r₂ n ∷ asks₂) (answers a s₁ ∷ ts₁) (answers a s₂ ∷ ts₂)
+  told-number :
+      (x : Reader) (v : ℕ) {asks₁ asks₂ : List Ask} {ts₁ ts₂ : List Told} → SameTold asks₁ asks₂ ts₁ ts₂
+      → SameTold (reads x ∷ asks₁) (reads x ∷ asks₂) (says v ∷ ts₁) (says v ∷ ts₂)
+
+-- with the same rows too, all that is told is the same
 abbrev pub SideBySide : Type 0
 SideBySide =
-    (asks : List Ask) (m₁ m₂ : List ℕ) (ts₁ ts₂ : List Told) (h₁ h₂ : Heap) (m₁′ m₂′ : List ℕ) → AllFit asks
-    → Run asks unopened m₁ ts₁ h₁ m₁′
-    → Run asks unopened m₂ ts₂ h₂ m₂′
-    → (ts₁ ≡ ts₂) × (h₁ ≡ h₂) × (holes h₁ m₁′ ≡ holes h₂ m₂′)
+    (asks₁ asks₂ : List Ask) (m₁ m₂ : List ℕ) (ts₁ ts₂ : List Told) (h₁ h₂ : Heap) (m₁′ m₂′ : List ℕ) → AllFit asks₁
+    → SameAsks asks₁ asks₂
+    → Run asks₁ unopened m₁ ts₁ h₁ m₁′
+    → Run asks₂ unopened m₂ ts₂ h₂ m₂′
+    → SameTold asks₁ asks₂ ts₁ ts₂
+    × (asks₁ ≡ asks₂ → ts₁ ≡ ts₂)
+    × (h₁ ≡ h₂)
+    × (holes h₁ m₁′ ≡ holes h₂ m₂′)
 
 -- no call of a run is refused with 5, and every heap of it is unopened or sound
 abbrev pub NeverUnsound : Type 0
@@ -407,6 +451,10 @@ pub record Tiles (b : Box) : Type 0 where
   pub inside : (y : ℕ) → Vacant (b .holes) y ⊎ Occupied (b .held) y → (b .heap .bottom .0 ≤ y) × (y < b .heap .top .0)
   pub gapless : (y : ℕ) → b .heap .bottom .0 ≤ y → y < b .heap .top .0 → Vacant (b .holes) y ⊎ Occupied (b .held) y
   pub apart : (y : ℕ) → Vacant (b .holes) y → Occupied (b .held) y → ⊥
+  -- no two holes share an address
+  pub holesApart :
+      (front mid back : List Hole) (j k : Hole) → b .holes ≡ front ++ (j ∷ (mid ++ (k ∷ back)))
+      → (y : ℕ) → Within (j .addr .0) (j .size) y → Within (k .addr .0) (k .size) y → ⊥
   -- any two held blocks are disjoint
   pub disjoint :
       (front mid back : List Block) (c d : Block) → b .held ≡ front ++ (c ∷ (mid ++ (d ∷ back)))
