@@ -8,5 +8,6 @@ pub mod Returned
 pub mod Refused
 pub mod Seen
 pub mod Accepted
+pub mod Told
 -- all that the caller is promised
 pub mod Statements

@@ -18,7 +18,7 @@ use Rattle.rules.specs.Refusals.{tests}
 use Rattle.rules.specs.Outcome.{outcome, leaves, after, Rows, rows, leavesRows, rowsAfter}
 use Rattle.rules.proofs.Passes.{Passes, by-decided, Plain, by-change}
 use Rattle.c_face.specs.Face.{heapOf, wordsOf}
-use Rattle.c_face.specs.Statements.{Zeros, RefusedLeaves, RefusedRows}
+use Rattle.c_face.specs.Statements.{RefusedLeaves, RefusedTells, RefusedRows}
 use Rattle.c_face.proofs.Returned.{words-return}
 
 -- the number of an answer
@@ -122,8 +122,14 @@ refused-leaves c s t n =
       zeros = rw (t .shows .0 .0, t .shows .0 .1) (record { one = told .0; two = told .1 });
     }
 
+pub refused-tells : RefusedTells
+unfolding after
+refused-tells x ws m number answer t n =
+    let (heap, arena, same, told) = kept (report x) (heapOf ws) m (rows [] []) (λ e. n (t .0 ∙ e)) in
+    rw (t .0, t .1) (record { one = told .0; two = told .1 })
+
 pub refused-rows : RefusedRows
-unfolding after rowsAfter
+unfolding rowsAfter
 refused-rows ws m before left number answer t n =
     let (heap, arena, same, told) = kept list (heapOf ws) m before (λ e. n (t .0 .0 ∙ e)) in
-    (t .1 ∙ same, rw (t .0 .0, t .0 .1) (record { one = told .0; two = told .1 }))
+    t .1 ∙ same

@@ -1,9 +1,9 @@
--- What a C caller is promised, in its own words: of the seven words and of the two of the answer by index, and of every byte. Each call's
--- statement is of whatever meets its contract (`Shows`, `Lists`). Definitions only.
+-- What a C caller is promised, in its own words: of the seven words and of the two of the answer by index, and of every byte. What is said
+-- of a call is said of whatever meets its contract (`Shows`, `Tells`, `Lists`). Definitions only.
 use mathlib.Core.Path.{_≡_}
 use mathlib.Core.List.{List, [], _∷_, _++_, List·Memᴰ}
 use mathlib.Core.Logic.{_⊎_}
-use Prim.Native.Nat.{ℕ, _+_, _-_, _≤_, _<_}
+use Prim.Native.Nat.{ℕ, _+_, _-_, _≤_, _<_, min}
 use lib.ListN.{length, getD}
 use Rattle.rules.specs.declared.Hole.{Hole}
 use Rattle.rules.specs.declared.Heap.{Heap}
@@ -11,11 +11,12 @@ use Rattle.rules.specs.Kinds.{addr}
 use Rattle.rules.specs.Holes.{hole}
 use Rattle.rules.specs.Round.{Below}
 use Rattle.rules.specs.InWords.{Sound, endOf, Hold, Rounds, Lies, RoomAt, Within, Vacant, Left}
-use Rattle.rules.specs.Calls.{Call, opening, allocate, free, resize, extend}
+use Rattle.rules.specs.Changes.{Report}
+use Rattle.rules.specs.Calls.{Call, opening, report, allocate, free, resize, extend}
 use Rattle.rules.specs.Outcome.{after, Rows}
 use Rattle.rules.specs.Runs.{Fits}
-use Rattle.rules.specs.Statements.{piece}
-use Rattle.c_face.specs.Face.{heapOf, wordsOf, Shows, Lists}
+use Rattle.rules.specs.Statements.{piece, rowAt}
+use Rattle.c_face.specs.Face.{heapOf, wordsOf, Tells, Shows, Lists}
 
 -- ---- which word is which: base, arena length, bottom, top, first, pending, used
 
@@ -86,11 +87,17 @@ pub record Nothing (s : Seen) : Type 0 where
 abbrev pub RefusedLeaves : Type 0
 RefusedLeaves = (c : Call) (s : Seen) → Meets c s → (s .number ≡ 0 → ⊥) → Nothing s
 
--- the list, whose heap and arena are not lent for change: its rows stay
+-- a report, whose heap and arena are not lent for change
+abbrev pub RefusedTells : Type 0
+RefusedTells =
+    (x : Report) (ws m : List ℕ) (number : ℕ) (answer : List ℕ) → Tells (after (report x) (heapOf ws) m .answer) number answer
+    → (number ≡ 0 → ⊥) → Zeros number answer
+
+-- and the list's rows
 abbrev pub RefusedRows : Type 0
 RefusedRows =
     (ws m : List ℕ) (before left : Rows) (number : ℕ) (answer : List ℕ) → Lists (heapOf ws) m before number answer left
-    → (number ≡ 0 → ⊥) → (left ≡ before) × Zeros number answer
+    → (number ≡ 0 → ⊥) → left ≡ before
 
 -- ---- an accepted call, whose number is 0
 
@@ -204,6 +211,20 @@ pub record Extends (by : ℕ) (s : Seen) : Type 0 where
 abbrev pub ExtendLeaves : Type 0
 ExtendLeaves = (by : ℕ) (s : Seen) → Meets (extend by) s → s .number ≡ 0 → Extends by s
 
+-- the list tells how many holes there are and the free bytes, and puts their addresses and sizes into the rows, as many as the shorter holds
+pub record Fills (ws m : List ℕ) (before left : Rows) (answer : List ℕ) : Type 0 where
+  pub holes : List Hole
+  pub held : Holds ws m holes
+  pub count : getD answer 0 0 ≡ length holes
+  pub bytes : getD answer 1 0 + getD ws 6 0 ≡ getD ws 3 0 - getD ws 2 0
+  pub addrs : rowAt (λ k. k .addr .0) holes (min (length (before .addrs)) (length (before .sizes))) (before .addrs) (left .addrs)
+  pub sizes : rowAt (λ k. k .size) holes (min (length (before .addrs)) (length (before .sizes))) (before .sizes) (left .sizes)
+
+abbrev pub ListLeaves : Type 0
+ListLeaves =
+    (ws m : List ℕ) (before left : Rows) (number : ℕ) (answer : List ℕ) → Lists (heapOf ws) m before number answer left
+    → number ≡ 0 → Fills ws m before left answer
+
 -- ---- all that is said to the caller
 
 pub record Statements : Type 0 where
@@ -212,9 +233,11 @@ pub record Statements : Type 0 where
   pub wordsReturn : WordsReturn
   pub heapReturns : HeapReturns
   pub refusedLeaves : RefusedLeaves
+  pub refusedTells : RefusedTells
   pub refusedRows : RefusedRows
   pub openLeaves : OpenLeaves
   pub allocateLeaves : AllocateLeaves
   pub freeLeaves : FreeLeaves
   pub resizeLeaves : ResizeLeaves
   pub extendLeaves : ExtendLeaves
+  pub listLeaves : ListLeaves
