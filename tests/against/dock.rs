@@ -11,10 +11,12 @@
 
 use crate::chance::{aligns_of, random_align, Rng};
 use crate::leanlantern::{Lantern, Refused};
-use crate::memory::{noise, Memory, LARGEST};
+use crate::memory::{noise, Memory, LARGEST, RESIDUES};
+use crate::original::Way;
 use crate::pair::Pair;
 use crate::report::{same, Counts};
 use crate::runs::new_size;
+use crate::unopened::Unopened;
 
 /// Up to so many blocks are freed by calls of both sides.
 const BY_CALLS: usize = 3_000;
@@ -31,7 +33,6 @@ fn fill(pair: &mut Pair, kinds: u64, rng: &mut Rng, counts: &mut Counts) {
     while counts.no_room == refused {
         let (size, stamp) = (16 + 8 * rng.below(kinds) - rng.below(8), rng.next() as u8);
         pair.allocate(size, 1, stamp, counts);
-        pair.compare_numbers();
     }
 }
 
@@ -43,8 +44,7 @@ fn thin(pair: &mut Pair, freed: &mut dyn FnMut(usize) -> bool, most_by_calls: us
         if which.len() > most_by_calls {
             pair.free_on_original(*i)
         } else {
-            pair.free(*i, counts);
-            pair.compare_numbers()
+            pair.free(*i, counts)
         }
     }
     if which.len() > most_by_calls {
@@ -89,7 +89,6 @@ fn turn(pair: &mut Pair, len: u64, keep: u64, rng: &mut Rng, counts: &mut Counts
             pair.allocate(size, align, stamp, counts)
         }
     }
-    pair.compare_numbers();
 }
 
 /// Which blocks are freed before the calls by chance.
@@ -160,7 +159,6 @@ fn random_run(pair: &mut Pair, plan: &Plan, rng: &mut Rng, aligns: &mut Rng, cou
         while !pair.held.is_empty() {
             let i = rng.below(pair.held.len() as u64) as usize;
             pair.free(i, counts);
-            pair.compare_numbers();
         }
         compare_all(pair, aligns, counts);
         same("all given back", vec![(pair.heap.bottom() as u64, pair.heap.size() as u64)], pair.original_holes());
@@ -171,7 +169,7 @@ fn random_run(pair: &mut Pair, plan: &Plan, rng: &mut Rng, aligns: &mut Rng, cou
 /// the middle and at the end take the hole behind them and give it back. Then each of them is freed, which joins it with the holes that it
 /// touches, and as many bytes as a block and two such holes have are asked for; at the end, as a block and one.
 fn most_holes(memory: &mut Memory, space: &mut [u8], aligns: &mut Rng, counts: &mut Counts) {
-    let mut pair = Pair::open(memory, space, 0, LARGEST).unwrap();
+    let Ok(mut pair) = Unopened::new(memory, space, 0).open(LARGEST, Way::Init, counts) else { unreachable!() };
     fill(&mut pair, 1, &mut Rng(9), counts);
     thin(&mut pair, &mut |i| i % 2 == 0, BY_CALLS, counts);
     compare_all(&mut pair, aligns, counts);
@@ -180,12 +178,9 @@ fn most_holes(memory: &mut Memory, space: &mut [u8], aligns: &mut Rng, counts: &
         let i = pair.held.iter().position(|b| b.addr == pair.base + 32 * k + 16).unwrap();
         for new in [24, 32, 0] {
             pair.resize(i, new, counts);
-            pair.compare_numbers();
         }
         pair.free(i, counts);
-        pair.compare_numbers();
         pair.allocate(if k == 524_287 { 32 } else { 48 }, 8, 0x44, counts);
-        pair.compare_numbers();
     }
     compare_all(&mut pair, aligns, counts);
     counts.runs += 1;
@@ -194,7 +189,7 @@ fn most_holes(memory: &mut Memory, space: &mut [u8], aligns: &mut Rng, counts: &
 
 /// So many holes in the largest arena, by calls of both sides, from the top down. What `carry` would have written is there.
 fn by_frees(built: usize, memory: &mut Memory, space: &mut [u8], aligns: &mut Rng, counts: &mut Counts) {
-    let mut pair = Pair::open(memory, space, 0, LARGEST).unwrap();
+    let Ok(mut pair) = Unopened::new(memory, space, 0).open(LARGEST, Way::Init, counts) else { unreachable!() };
     fill(&mut pair, 2, &mut Rng(5), counts);
     let blocks = pair.held.len();
     thin(&mut pair, &mut |i| i % 2 == 0 && blocks - i <= 2 * built, built, counts);
@@ -223,10 +218,12 @@ pub fn dock(seed: u64, runs: u64, built: usize) -> Counts {
     limit(&memory);
     for n in 0..runs {
         let plan = plan(n == 0, &mut rng);
-        let residue = (n % 16) as usize;
+        let residue = n as usize % RESIDUES;
         noise(memory.bytes(residue, plan.len), &mut rng);
         noise(&mut space[..plan.len], &mut rng);
-        let Some(mut pair) = Pair::open(&mut memory, &mut space[..plan.len], residue, plan.named) else { continue };
+        let mut unopened = Unopened::new(&mut memory, &mut space[..plan.len], residue);
+        unopened.turn(&mut aligns, &mut counts);
+        let Ok(mut pair) = unopened.open(plan.named, Way::Init, &mut counts) else { continue };
         random_run(&mut pair, &plan, &mut rng, &mut aligns, &mut counts);
     }
     by_frees(built, &mut memory, &mut space, &mut aligns, &mut counts);

@@ -1,7 +1,8 @@
 //! The original and Leanlantern on the same calls, with the same addresses: our arena is told the address of the original's memory.
 //!
-//!   against run SEED CALLS     random runs: all 16 residues of the base, heaps from 16 bytes to 65,536, scribbles between calls
+//!   against run SEED CALLS     random runs: 64 residues of the base, heaps from 16 bytes to 65,536, scribbles between calls
 //!   against tilings UNITS      every tiling of heaps of up to UNITS times 8 bytes, with one more request, free, resize or extension
+//!   against edges NAMED        every small opening, of up to NAMED bytes, and every alignment with the sizes at its limits
 //!   against dock SEED RUNS BUILT   random runs on arenas of up to 16,777,216 bytes, with up to 524,288 holes, BUILT of them made by calls
 //!   against sample SEED LINES  calls as wire frames, each followed by the original's lines, marked by '='
 //!   against bench CALLS        both on the same traces, alternating; medians as ratios; then on arenas of up to 16,777,216 bytes
@@ -11,7 +12,9 @@
 //! The original has no resize. Whether ours must be granted is told by the original's holes, and what is granted is done on the original by
 //! its own grants and frees, so that every resize is compared and both sides go on with the same list.
 //!
-//! It stops at the first difference with exit status 1.
+//! Before the opening, which most runs have, the heap is unopened on both sides, and they are asked there too.
+//!
+//! It stops at the first difference with exit status 1. That the original panics is one.
 
 #[path = "../../bindings/leanlantern.rs"]
 #[allow(dead_code)]
@@ -20,6 +23,7 @@ mod leanlantern;
 mod bench;
 mod chance;
 mod dock;
+mod edges;
 mod memory;
 mod original;
 mod pair;
@@ -29,15 +33,18 @@ mod sample;
 #[cfg(target_arch = "x86_64")]
 mod stack;
 mod tilings;
+mod unopened;
 
 use memory::{Memory, ARENA};
 
 fn main() {
+    report::panics_differ();
     let args: Vec<String> = std::env::args().collect();
     let number = |i: usize| args.get(i).and_then(|s| s.parse::<u64>().ok()).unwrap_or_else(|| panic!("a number is missing"));
     let counts = match args.get(1).map(|s| s.as_str()) {
         Some("run") => runs::run(number(2), number(3)),
         Some("tilings") => tilings::exhaustive(number(2) as usize),
+        Some("edges") => edges::edges(number(2) as usize),
         Some("dock") => {
             let counts = dock::dock(number(2), number(3), number(4) as usize);
             counts.print();
@@ -60,8 +67,8 @@ fn main() {
             return;
         }
         _ => panic!(
-            "usage: against run SEED CALLS | tilings UNITS | dock SEED RUNS BUILT | sample SEED LINES | bench CALLS | stack HOLES \
-             | trace NAME WHO CALLS"
+            "usage: against run SEED CALLS | tilings UNITS | edges NAMED | dock SEED RUNS BUILT | sample SEED LINES | bench CALLS \
+             | stack HOLES | trace NAME WHO CALLS"
         ),
     };
     counts.print();

@@ -7,7 +7,10 @@ use std::alloc::Layout;
 pub const ARENA: usize = 65_536;
 pub const LARGEST: usize = 16_777_216;
 
-/// Memory for an arena, with 16 bytes more for its residue. It lies at an odd multiple of a power of two, at least 2^20 and no smaller
+/// Bases are tried at so many residues, one byte apart: most requests have no larger alignment.
+pub const RESIDUES: usize = 64;
+
+/// Memory for an arena, with 64 bytes more for its residue. It lies at an odd multiple of a power of two, at least 2^20 and no smaller
 /// than itself: no larger alignment is met in it, so that a run depends on its seed alone and not on where the memory happens to lie.
 pub struct Memory {
     pub start: *mut u8,
@@ -16,11 +19,11 @@ pub struct Memory {
 
 impl Memory {
     fn step(len: usize) -> usize {
-        (len + 16).next_power_of_two().max(1 << 20)
+        (len + RESIDUES).next_power_of_two().max(1 << 20)
     }
 
     fn layout(len: usize) -> Layout {
-        Layout::from_size_align(Memory::step(len) + len + 16, 2 * Memory::step(len)).unwrap()
+        Layout::from_size_align(Memory::step(len) + len + RESIDUES, 2 * Memory::step(len)).unwrap()
     }
 
     pub fn new(len: usize) -> Memory {

@@ -1,9 +1,32 @@
-//! The original alone: its holes, its grants, and spans given back to it.
+//! The original alone: how it is opened, its holes, its grants, and spans given back to it.
 
 use linked_list_allocator::hole::HoleList;
 use linked_list_allocator::Heap;
 use std::alloc::Layout;
+use std::mem::MaybeUninit;
 use std::ptr::NonNull;
+
+/// The four ways in which the original is opened.
+#[derive(Clone, Copy)]
+pub enum Way {
+    Init,
+    InitFromSlice,
+    New,
+    FromSlice,
+}
+
+pub const WAYS: [Way; 4] = [Way::Init, Way::InitFromSlice, Way::New, Way::FromSlice];
+
+/// An empty heap is opened, or a new one takes its place. The memory must stay for as long as the heap is used.
+pub fn opened(heap: &mut Heap, start: *mut u8, named: usize, way: Way) {
+    let slice: fn(*mut u8, usize) -> &'static mut [MaybeUninit<u8>] = |p, n| unsafe { std::slice::from_raw_parts_mut(p.cast(), n) };
+    match way {
+        Way::Init => unsafe { heap.init(start, named) },
+        Way::InitFromSlice => heap.init_from_slice(slice(start, named)),
+        Way::New => *heap = unsafe { Heap::new(start, named) },
+        Way::FromSlice => *heap = Heap::from_slice(slice(start, named)),
+    }
+}
 
 pub fn holes_of(heap: &Heap) -> Vec<(u64, u64)> {
     let mut holes = Vec::new();

@@ -5,6 +5,7 @@ use crate::leanlantern::{Lantern, Refused};
 use crate::memory::Memory;
 use crate::original::{asked, give_back, granted, holes_of, rounded};
 use crate::report::{differ, same, Counts};
+use crate::unopened::Unopened;
 use linked_list_allocator::Heap;
 use std::alloc::Layout;
 use std::ptr::NonNull;
@@ -65,25 +66,14 @@ pub struct Pair<'a> {
 }
 
 impl<'a> Pair<'a> {
-    /// None where both say no.
-    pub fn open(memory: &'a mut Memory, arena: &'a mut [u8], residue: usize, named: usize) -> Option<Pair<'a>> {
-        let len = arena.len();
-        let base = memory.start as u64 + residue as u64;
-        let mut ours = Lantern::new(arena);
-        let answer = ours.open(base, named as u64);
-        let gap = (8 - residue % 8) % 8;
-        let fits = named >= gap && (named - gap) / 8 * 8 >= 16;
-        if !fits {
-            same("opening refused", Err(Refused { number: 1, count: 0 }), answer);
-            return None;
-        }
-        let mut heap = Heap::empty();
-        unsafe { heap.init(memory.start.add(residue), named) };
-        same("opening", Ok((heap.bottom() as u64, heap.size() as u64)), answer);
+    /// Both sides, which were just opened with as many bytes as are named.
+    pub fn new(unopened: Unopened<'a>, named: usize) -> Pair<'a> {
+        let Unopened { heap, memory, residue, base, ours, before } = unopened;
+        let len = ours.arena.len();
         // holes and the blocks between them have 16 bytes each, at least
         let most = len / 32 + 1;
         let rows = (vec![0; most], vec![0; most]);
-        Some(Pair { heap, memory, residue, base, len, given: named, ours, held: Vec::new(), rows, before: Vec::new() })
+        Pair { heap, memory, residue, base, len, given: named, ours, held: Vec::new(), rows, before }
     }
 
     /// Whether a place needs more than two bytes.
@@ -119,7 +109,7 @@ impl<'a> Pair<'a> {
     }
 
     /// The list that both have.
-    fn compare_list(&mut self) -> Vec<(u64, u64)> {
+    pub fn compare_list(&mut self) -> Vec<(u64, u64)> {
         let holes = self.original_holes();
         let (addrs, sizes) = (&mut self.rows.0, &mut self.rows.1);
         same("list", Ok((holes.len() as u64, self.heap.free() as u64)), self.ours.list(addrs, sizes));
@@ -144,7 +134,7 @@ impl<'a> Pair<'a> {
     }
 
     /// What can be told of both without their lists.
-    pub fn compare_numbers(&self) {
+    fn compare_numbers(&self) {
         same("bottom", self.heap.bottom() as u64, self.ours.bottom());
         same("top", self.heap.top() as u64, self.ours.top());
         same("size", self.heap.size() as u64, self.ours.size());
@@ -176,18 +166,23 @@ impl<'a> Pair<'a> {
         counts.carried += 1;
     }
 
-    /// Every byte of every held block is what was written there, on both sides.
+    /// Every byte of a held block is what was written there, on both sides.
+    fn compare_block(&mut self, b: Held, counts: &mut Counts) {
+        let at = (b.addr - self.base) as usize;
+        let theirs = self.memory.bytes(self.residue + at, b.span());
+        if theirs.iter().any(|x| *x != b.stamp) {
+            differ("the original changed a held block", b.addr, b.size)
+        }
+        if self.ours.arena[at..at + b.span()].iter().any(|x| *x != b.stamp) {
+            differ("a held block changed", b.addr, b.size)
+        }
+        counts.bytes += b.span() as u64;
+    }
+
+    /// The same of every held block.
     pub fn compare_held(&mut self, counts: &mut Counts) {
-        for b in &self.held {
-            let at = (b.addr - self.base) as usize;
-            let theirs = self.memory.bytes(self.residue + at, b.span());
-            if theirs.iter().any(|x| *x != b.stamp) {
-                differ("the original changed a held block", b.addr, b.size)
-            }
-            if self.ours.arena[at..at + b.span()].iter().any(|x| *x != b.stamp) {
-                differ("a held block changed", b.addr, b.size)
-            }
-            counts.bytes += b.span() as u64;
+        for i in 0..self.held.len() {
+            self.compare_block(self.held[i], counts);
         }
     }
 
@@ -213,8 +208,14 @@ impl<'a> Pair<'a> {
         self.ours.arena[at..at + b.span()].fill(b.stamp);
     }
 
-    pub fn allocate(&mut self, size: u64, align: u64, stamp: u8, counts: &mut Counts) {
+    /// A call begins: the numbers that the call before it left are the same on both sides.
+    fn begin(&mut self, counts: &mut Counts) {
         counts.calls += 1;
+        self.compare_numbers();
+    }
+
+    pub fn allocate(&mut self, size: u64, align: u64, stamp: u8, counts: &mut Counts) {
+        self.begin(counts);
         let before = self.original_holes();
         let answer = self.ours.allocate(size, align);
         let layout = match Layout::from_size_align(size as usize, align as usize) {
@@ -251,9 +252,10 @@ impl<'a> Pair<'a> {
     }
 
     pub fn free(&mut self, i: usize, counts: &mut Counts) {
-        counts.calls += 1;
+        self.begin(counts);
         counts.frees += 1;
         let b = self.held.swap_remove(i);
+        self.compare_block(b, counts);
         let layout = Layout::from_size_align(b.size as usize, b.align as usize).unwrap();
         unsafe { self.heap.deallocate(NonNull::new(b.addr as *mut u8).unwrap(), layout) };
         let rounded = b.span() as u64;
@@ -299,7 +301,7 @@ impl<'a> Pair<'a> {
     /// Refused, our words and bytes stay. Granted, both sides have the same list and used, the bytes common to both sizes stay, and so does
     /// every byte of our arena that is in no head.
     pub fn resize(&mut self, i: usize, new: u64, counts: &mut Counts) {
-        counts.calls += 1;
+        self.begin(counts);
         let b = self.held[i];
         let holes = self.original_holes();
         let (stretch, _) = self.stretch(i, &holes);
@@ -343,7 +345,7 @@ impl<'a> Pair<'a> {
     }
 
     pub fn extend(&mut self, by: usize, counts: &mut Counts) {
-        counts.calls += 1;
+        self.begin(counts);
         if self.given + by > self.len {
             same("past the arena", Err(Refused { number: 9, count: 0 }), self.ours.extend(by as u64));
             counts.past += 1;

@@ -1,5 +1,5 @@
 # Sourced by the scripts beside it: builds the original from its folder, with nothing added but a reader of its list.
-# usage: build_original FOLDER OUTPUT [SED-EXPRESSION]   (the expression plants a fault in a copy of hole.rs)
+# usage: build_original FOLDER OUTPUT [SED-EXPRESSION [OPTION]]   (the expression plants a fault in a copy of hole.rs)
 build_original() {
     local from=$1 out=$2 fault=${3:-}
     local copy
@@ -42,6 +42,7 @@ impl Heap {
     }
 }
 R
-    rustc --edition 2018 -O -C panic=unwind --crate-type rlib --crate-name linked_list_allocator -A warnings "$copy/lib.rs" -o "$out"
+    rustc --edition 2018 -O ${4:+"$4"} -C panic=unwind --crate-type rlib --crate-name linked_list_allocator -A warnings \
+        "$copy/lib.rs" -o "$out"
     rm -rf "$copy"
 }

@@ -19,6 +19,9 @@ pub struct Counts {
     pub rooms: u64,
     pub bytes: u64,
     pub runs: u64,
+    /// Calls on an unopened heap, and those of them that are requests to both sides.
+    pub unopened: u64,
+    pub unopened_requests: u64,
     /// Grants, frees and resizes at places from 65,536 on.
     pub far: u64,
     /// Lists in which the first hole lies there.
@@ -38,7 +41,7 @@ pub struct Counts {
 impl Counts {
     pub fn print(&self) {
         println!(
-            "agree: {} calls in {} runs ({} grants, {} without room, {} bad layouts, {} frees, {} extensions, {} past the arena, {} resizes, {} without stretch); {} resizes gave back a tail, {} took a hole; {} lists with {} holes, at most {}; {} room reports; {} held bytes",
+            "agree: {} calls in {} runs ({} grants, {} without room, {} bad layouts, {} frees, {} extensions, {} past the arena, {} resizes, {} without stretch); {} resizes gave back a tail, {} took a hole; {} lists with {} holes, at most {}; {} room reports; {} held bytes; {} calls before an opening, of which {} are requests to both",
             self.calls,
             self.runs,
             self.grants,
@@ -55,7 +58,9 @@ impl Counts {
             self.holes,
             self.most,
             self.rooms,
-            self.bytes
+            self.bytes,
+            self.unopened,
+            self.unopened_requests
         );
     }
 
@@ -77,4 +82,18 @@ pub fn same<T: PartialEq + std::fmt::Debug>(what: &str, original: T, ours: T) {
     if original != ours {
         differ(what, original, ours)
     }
+}
+
+/// From here on, that the original panics is a difference: ours never does.
+pub fn panics_differ() {
+    let hook = std::panic::take_hook();
+    std::panic::set_hook(Box::new(move |info| {
+        let at = info.location().map_or(("", 0), |l| (l.file().rsplit('/').next().unwrap_or(""), l.line()));
+        if ["hole.rs", "lib.rs"].contains(&at.0) {
+            let text = info.payload().downcast_ref::<&str>().map(|s| s.to_string());
+            let text = text.or_else(|| info.payload().downcast_ref::<String>().cloned());
+            differ("the original panics", (at, text.unwrap_or_default()), "no panic")
+        }
+        hook(info)
+    }));
 }

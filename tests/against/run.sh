@@ -1,8 +1,10 @@
 #!/usr/bin/env bash
 # The original and Leanlantern on the same calls, on shared ground: every answer, hole list, room report, reader and held byte must
 # agree. A resize, which the original does not have, is done on it by its own grants and frees. Tilings of small heaps come first, then
-# random runs on arenas of up to 65,536 bytes, then runs on arenas of up to 16,777,216 bytes with up to 524,288 holes. Then the same
-# comparison with a planted fault in a copy of the original, or of the bindings through which ours is asked; it must report each.
+# every small opening and every alignment with the sizes at its limits, then random runs on arenas of up to 65,536 bytes, then runs on
+# arenas of up to 16,777,216 bytes with up to 524,288 holes. Most runs begin with calls on an unopened heap. A part of the runs is made
+# again on an original that was built with its debug assertions on. Then comes the same comparison with a planted fault in a copy of the
+# original, or of the bindings through which ours is asked; it must report each.
 #
 # usage: tests/against/run.sh [--short] [--seed N] [ORIGINAL-FOLDER]     (default folder: ../shared/docs/src beside the repository)
 set -euo pipefail
@@ -11,11 +13,16 @@ root=$(cd "$here/../.." && pwd)
 . "$root/tests/library.sh"
 . "$here/reader.sh"
 
-units=10 calls=2000000 runs=120 built=201000 seed=1
+units=10 named=48 calls=2000000 runs=120 built=201000 seed=1
+# of these with the original's debug assertions on
+on_units=7 on_named=48 on_calls=500000 on_runs=4
 original=''
 while [ $# -gt 0 ]; do
     case $1 in
-    --short) units=7 calls=100000 runs=3 built=2000 ;;
+    --short)
+        units=7 named=24 calls=100000 runs=3 built=2000
+        on_units=4 on_named=24 on_calls=20000 on_runs=''
+        ;;
     --seed)
         [ $# -ge 2 ] || { echo "against: --seed wants a number" >&2; exit 2; }
         seed=$2
@@ -34,19 +41,20 @@ need_library "$root"
 work=$(mktemp -d)
 trap 'rm -rf "$work"' EXIT
 
-# usage: build_driver NAME DRIVER ORIGINAL [OPTION]
+# usage: build_driver NAME DRIVER ORIGINAL [OPTION]..
 build_driver() {
-    rustc --edition 2021 ${4:+"$4"} "$2" --extern "linked_list_allocator=$3/liblinked_list_allocator.rlib" \
+    rustc --edition 2021 "${@:4}" "$2" --extern "linked_list_allocator=$3/liblinked_list_allocator.rlib" \
         -L "$root/target/staticlib" -l static=leanlantern -o "$work/$1/against"
 }
 
-# usage: build_against NAME [SED-EXPRESSION]   (the first difference of a fault comes at once, so its driver is not optimised)
+# usage: build_against NAME [SED-EXPRESSION [OPTION]]   (the option is for the original. The first difference of a fault comes at once, and
+# the runs with assertions are few, so their drivers are not optimised)
 build_against() {
-    local option=''
-    if [ $# -eq 1 ]; then option=-O; fi
+    local options=()
+    if [ $# -eq 1 ]; then options=(-O -Ccodegen-units=1); fi
     mkdir "$work/$1"
-    build_original "$original" "$work/$1/liblinked_list_allocator.rlib" "${2:-}"
-    build_driver "$1" "$here/main.rs" "$work/$1" "$option"
+    build_original "$original" "$work/$1/liblinked_list_allocator.rlib" "${2:-}" "${3:-}"
+    build_driver "$1" "$here/main.rs" "$work/$1" "${options[@]}"
 }
 
 # usage: build_faulty_ours NAME SED-EXPRESSION   (the fault is in a copy of the bindings, and the original is the true one)
@@ -64,10 +72,22 @@ build_faulty_ours() {
 build_against true
 echo "tilings of up to $units units"
 "$work/true/against" tilings "$units"
+echo "openings of up to $named bytes, and sizes at the limits of every alignment"
+"$work/true/against" edges "$named"
 echo "random runs, seed $seed"
 "$work/true/against" run "$seed" "$calls"
 echo "arenas of up to 16,777,216 bytes, seed $seed"
 "$work/true/against" dock "$seed" "$runs" "$built"
+
+build_against asserting '' -Cdebug-assertions=on
+echo "with the original's debug assertions on: tilings of up to $on_units units, openings of up to $on_named bytes, random runs"
+"$work/asserting/against" tilings "$on_units"
+"$work/asserting/against" edges "$on_named"
+"$work/asserting/against" run "$seed" "$on_calls"
+if [ -n "$on_runs" ]; then
+    echo "with them on: arenas of up to 16,777,216 bytes"
+    "$work/asserting/against" dock "$seed" "$on_runs" 1
+fi
 
 # usage: reported NAME WHAT MODE NUMBER..   (WHAT: how the difference begins)
 reported() {
@@ -98,6 +118,11 @@ must_report front_of_8 's/hole_addr_u8.wrapping_add(HoleList::min_size())/hole_a
 must_report joins_before_only 's/^            (cursor, 2)$/            (cursor, 1)/' tilings 7
 must_report extends_from_17 's/if extend_by < minimum_extend/if extend_by <= minimum_extend/' tilings 7
 must_report back_of_16_in_runs 's/if back_padding_end <= hole_end/if back_padding_end < hole_end/' run "$seed" 100000
+# an assertion that is turned round: it does not hold where a block is freed behind a hole, and nothing else shows that
+build_against assertion_turned 's/debug_assert!(self.hole < node/debug_assert!(self.hole > node/' -Cdebug-assertions=on
+reported assertion_turned 'the original panics' tilings 7
+# an unopened heap
+must_report_ours unopened_has_no_room 'unopened: request' '/c::lantern_allocate(/a let n = if n == 3 { 7 } else { n };' tilings 7
 # the room report, at a true alignment
 must_report_ours room_forgets_alignment 'room at [0-9]' \
     's/\(c::lantern_room(.*\), align, /\1, if align.is_power_of_two() { 1 } else { align }, /' tilings 7

@@ -1,11 +1,12 @@
 //! Random runs, and the heap with as many holes as there can be.
 
 use crate::chance::{aligns_of, random_align, Rng};
-use crate::memory::{noise, Memory, ARENA};
-use crate::pair::Pair;
+use crate::memory::{noise, Memory, ARENA, RESIDUES};
+use crate::original::{Way, WAYS};
 use crate::report::{same, Counts};
+use crate::unopened::Unopened;
 
-fn random_size(rng: &mut Rng, len: u64) -> u64 {
+pub fn random_size(rng: &mut Rng, len: u64) -> u64 {
     match rng.below(24) {
         0 => rng.next(),
         1 => rng.below(len + 64),
@@ -29,7 +30,7 @@ pub fn new_size(rng: &mut Rng, span: u64, stretch: u64, len: u64) -> u64 {
 /// The largest heap with as many holes as there can be: 4,096 blocks of 16 bytes, every other one given back. The blocks that stay are
 /// followed by a hole of 16, all but the last; some of them, far along the list too, take it and give it back.
 fn most_holes(memory: &mut Memory, space: &mut [u8], aligns: &mut Rng, counts: &mut Counts) {
-    let mut pair = Pair::open(memory, space, 0, ARENA).unwrap();
+    let Ok(mut pair) = Unopened::new(memory, space, 0).open(ARENA, Way::Init, counts) else { unreachable!() };
     for i in 0..ARENA / 16 {
         pair.allocate(16, 8, i as u8, counts);
     }
@@ -59,7 +60,7 @@ pub fn run(seed: u64, calls: u64) -> Counts {
     most_holes(&mut memory, &mut space, &mut aligns, &mut counts);
     while counts.calls < calls {
         counts.runs += 1;
-        let residue = (counts.runs % 16) as usize;
+        let residue = counts.runs as usize % RESIDUES;
         let len = match rng.below(4) {
             0 => rng.below(64) as usize,
             1 => rng.below(400) as usize,
@@ -70,7 +71,20 @@ pub fn run(seed: u64, calls: u64) -> Counts {
         let named = if rng.one_in(2) { len } else { rng.below(len as u64 + 1) as usize };
         noise(memory.bytes(residue, len), &mut rng);
         noise(&mut space[..len], &mut rng);
-        let Some(mut pair) = Pair::open(&mut memory, &mut space[..len], residue, named) else { continue };
+        let mut unopened = Unopened::new(&mut memory, &mut space[..len], residue);
+        for _ in 0..rng.below(8) {
+            unopened.turn(&mut rng, &mut counts);
+        }
+        if rng.one_in(32) {
+            continue;
+        }
+        let mut pair = match unopened.open(named, WAYS[rng.below(4) as usize], &mut counts) {
+            Ok(pair) => pair,
+            Err(mut still) => {
+                still.turn(&mut rng, &mut counts);
+                continue;
+            }
+        };
         pair.compare(&mut aligns, &mut counts);
         let turns = 20 + rng.below(if len < 1_000 { 200 } else { 1_500 });
         let keep = rng.below(90);
@@ -95,6 +109,7 @@ pub fn run(seed: u64, calls: u64) -> Counts {
                     pair.allocate(size, align, stamp, &mut counts)
                 }
             }
+            pair.compare_list();
             if len < 1_000 || turn % 64 == 0 {
                 pair.compare(&mut aligns, &mut counts);
                 pair.compare_held(&mut counts);
@@ -107,6 +122,7 @@ pub fn run(seed: u64, calls: u64) -> Counts {
         while !pair.held.is_empty() {
             let i = rng.below(pair.held.len() as u64) as usize;
             pair.free(i, &mut counts);
+            pair.compare_list();
         }
         pair.compare(&mut aligns, &mut counts);
         same("all given back", vec![(pair.heap.bottom() as u64, pair.heap.size() as u64)], pair.original_holes());
