@@ -61,7 +61,7 @@ placed-last new b at m l =
 
 -- ---- digits and lines
 
-hex-length : (n x : ℕ) → length (hex n x) ≡ n
+pub hex-length : (n x : ℕ) → length (hex n x) ≡ n
 unfolding hex
 hex-length zero x = refl
 hex-length (suc n) x = simp (length-append, hex-length n (x / 16)) (omega arith)

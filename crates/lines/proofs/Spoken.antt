@@ -48,6 +48,13 @@ lists (change c) = false
 lists (report Report.list) = true
 lists (report (Report.room align)) = false
 
+-- and no other call does
+pub lists-list : (c : Call) → lists c ≡ true → c ≡ list
+lists-list (opening base named) e = apart e refl
+lists-list (change c) e = apart e refl
+lists-list (report Report.list) e = refl
+lists-list (report (Report.room align)) e = apart e refl
+
 accepted-shown : (c : Call) (len : ℕ) (h : Heap) (ks : List Hole) → lists c ≡ false → shown (accepted c len h ks) ≡ []
 unfolding accepted shown
 accepted-shown (opening base named) len h ks e = refl
@@ -55,7 +62,7 @@ accepted-shown (change c) len h ks e = by-change (λ o. shown o ≡ []) h ks (λ
 accepted-shown (report Report.list) len h ks e = apart refl e
 accepted-shown (report (Report.room align)) len h ks e = refl
 
-call-shown : (c : Call) (h : Heap) (m : List ℕ) → lists c ≡ false → shown (outcome c h m) ≡ []
+pub call-shown : (c : Call) (h : Heap) (m : List ℕ) → lists c ≡ false → shown (outcome c h m) ≡ []
 unfolding outcome shown
 call-shown c h m e =
     by-decided (λ o. shown o ≡ []) c (length m) h (holes h m) (λ r. refl) (λ p. accepted-shown c (length m) h (holes h m) e)
