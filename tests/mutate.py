@@ -1,16 +1,19 @@
 #!/usr/bin/env python3
-"""A trial of the definitions of crate rules: one place is changed at a time, and the crate checked again, then crate demands over it.
+"""A trial of the definitions of crates rules and lines: one place is changed at a time, and the crate checked again, without its code. A
+mutant of rules that is still proved is then checked under crate demands.
 
 A mutant that is still proved either means the same as the definition, or shows a statement that is too weak.
 
     tests/mutate.py                     about 60 mutants, spread over all definitions
     tests/mutate.py --count 0           all of them
+    tests/mutate.py --crate lines       those of one crate
     tests/mutate.py --seed 3 --list     only say which would be tried
     tests/mutate.py --only gap,suits    those of some definitions
 
-Each line of the report is: verdict, place, definition, what was changed, and the first error. `refused`: a proof no longer holds. `void`: the
-changed definition itself has no meaning (a name out of scope, a type that does not fit), which shows nothing, so the next mutant of the same
-definition takes its place. `untold`: the prover ran out of steps. `survived`: everything is still proved."""
+Each line of the report is: verdict, place, definition, what was changed, and the first error. `refused`: a proof no longer holds. `beside`: only
+laws that code is proved with no longer hold, and no statement rests on them. `void`: the changed definition itself has no meaning (a name out
+of scope, a type that does not fit), which shows nothing, so the next mutant of the same definition takes its place. `untold`: the prover ran
+out of steps. `survived`: everything is still proved."""
 import argparse
 import os
 import random
@@ -20,7 +23,13 @@ import subprocess
 import sys
 import tempfile
 
-FILES = "Fixed Tests Round Kinds Words Holes Sound Allocate Free Resize Calls Readers Refusals Answers Outcome".split()
+FILES = {
+    "rules": "Fixed Tests Round Kinds Words Holes Sound Allocate Free Resize Calls Readers Refusals Answers Outcome".split(),
+    "lines": "Frames Lines Printed Wire".split(),
+}
+# what a crate's trial needs beside it, and what its statements are proved in; in rules, all
+BESIDE = {"rules": "demands", "lines": "rules"}
+STATED = {"lines": "Format"}
 
 # one name for another of the same type
 SWAPS = [
@@ -33,6 +42,8 @@ CONSTRUCTORS = {
     "BadOpening", "Opened", "Unopened", "OtherLength", "NotSound", "BadLayout", "BadSpan", "PastArena", "BadStretch", "Rounded", "Bad", "Opening",
     "Allocated", "Freed", "Resized", "Extended", "Listed", "Room",
 }
+# the variables of lines that are numbers
+NUMBERS = set("base named s align a n by code one two i x".split())
 # where a name that a mutant brings comes from
 HOMES = {
     "leb": "lib.Dec", "ltb": "lib.Dec", "eqb": "lib.Dec", "true": "mathlib.Core.Bool", "false": "mathlib.Core.Bool",
@@ -47,22 +58,25 @@ TOKEN = re.compile(r"--[^\n]*|[^\s(){};,]+|[(){};,]")
 
 
 class Mutant:
-    def __init__(self, file, name, start, end, old, new, what):
-        self.file, self.name, self.start, self.end, self.old, self.new, self.what = file, name, start, end, old, new, what
+    def __init__(self, place, name, start, end, old, new, what):
+        self.crate, self.file = place
+        self.name, self.start, self.end, self.old, self.new, self.what = name, start, end, old, new, what
 
     def text(self, source):
         changed = source[: self.start] + self.new + source[self.end :]
         for word in re.findall(r"[^\s(){};,]+", self.new):
-            changed = imported(changed, word)
+            changed = imported(self.crate, changed, word)
         return changed
 
 
-def imported(source, word):
+def imported(crate, source, word):
     """The source with the name imported, if it is one that a mutant brings."""
     for name in (word, f"_{word}_"):
         home = HOMES.get(name)
         if home is None:
             continue
+        if crate != "rules":
+            home = home.replace("Rattle.rules.specs", "Rattle.rules.specs")
         lines = source.split("\n")
         for line in lines:
             if line.startswith("use ") and re.search(r"[{ ]" + re.escape(name) + r"[,}]", line):
@@ -133,19 +147,19 @@ def atoms(text, at, count):
     return out
 
 
-def mutants(file, source):
+def mutants(place, source):
     for name, parts in definitions(source).items():
         for start, end in joined(parts):
             text = source[start:end]
 
             def made(a, b, new, what):
-                return Mutant(file, name, start + a, start + b, text[a:b], new, what)
+                return Mutant(place, name, start + a, start + b, text[a:b], new, what)
 
             tokens = [t for t in TOKEN.finditer(text) if not t.group().startswith("--")]
             for t in tokens:
                 word = t.group()
-                if word.isdigit():
-                    yield made(t.start(), t.end(), str(int(word) + 1), f"{word} to {int(word) + 1}")
+                if re.fullmatch(r"\d+|0x[0-9a-f]+", word):
+                    yield made(t.start(), t.end(), str(int(word, 0) + 1), f"{word} to {int(word, 0) + 1}")
                 for pair in SWAPS:
                     for old, new in (pair, pair[::-1]):
                         if word == old:
@@ -161,6 +175,17 @@ def mutants(file, source):
                     new = b.group() + text[a.end() : b.start()] + a.group()
                     yield made(a.start(), b.end(), new, f"{a.group()} and {b.group()} exchanged")
             yield from dropped(text, made)
+            if place[0] == "lines":
+                yield from renamed(tokens, source[source.rindex("\n", 0, start) + 1 : start], made)
+
+
+def renamed(tokens, left, made):
+    """A number for the one before it or behind it on the left side of the clause: which is which in a frame or an answer is an order."""
+    names = [word for word in re.findall(r"[^\s(){};,]+", left) if word in NUMBERS]
+    for t in tokens:
+        for a, b in [*zip(names, names[1:]), *zip(names[1:], names)]:
+            if t.group() == a:
+                yield made(t.start(), t.end(), b, f"{a} to {b}")
 
 
 def dropped(text, made):
@@ -184,7 +209,7 @@ def sample(found, count, seed):
     chance = random.Random(seed)
     by = {}
     for m in found:
-        by.setdefault((m.file, m.name), []).append(m)
+        by.setdefault((m.crate, m.file, m.name), []).append(m)
     for ms in by.values():
         chance.shuffle(ms)
     keys = list(by)
@@ -197,37 +222,79 @@ def sample(found, count, seed):
     return queue if count == 0 else queue[:count], queue[count:] if count else []
 
 
-def copied(repo, room):
-    """A repository of crates rules and demands alone."""
-    for name in ("rules", "demands"):
+def types(source):
+    """The types that a source file declares, and the modules below it, without any function."""
+    blocks = re.findall(r"^pub (?:enum|struct) .*?^}\n", source, re.M | re.S)
+    return "".join(re.findall(r"^mod \w+;\n|^use rules::\w+;\n", source, re.M) + blocks)
+
+
+def copied(repo, room, crate):
+    """A repository of the crate and of what its trial needs beside it. The code of lines stays out, and so do the proofs of its functions:
+    what refuses a mutant there is a law or a statement."""
+    for name in (crate, BESIDE[crate]):
         for part in ("src", "specs", "proofs"):
             shutil.copytree(os.path.join(repo, "crates", name, part), os.path.join(room, "crates", name, part))
     with open(os.path.join(room, "crates.txt"), "w") as out:
-        out.write("rules:\ndemands: rules\n")
-    return os.path.join(room, "crates/rules")
+        out.write(f"rules:\n{'demands' if crate == 'rules' else crate}: rules\n")
+    own = os.path.join(room, "crates", crate)
+    if crate == "lines":
+        kept = {}
+        for file in os.listdir(os.path.join(own, "src")):
+            with open(os.path.join(own, "src", file)) as text:
+                kept[file[:-3]] = types(text.read())
+            shutil.rmtree(os.path.join(own, "proofs", file[:-3]), ignore_errors=True)
+        empty = [name for name, text in kept.items() if not text]
+        for name, text in kept.items():
+            if name in empty:
+                os.remove(os.path.join(own, "src", name + ".rt"))
+                continue
+            with open(os.path.join(own, "src", name + ".rt"), "w") as out:
+                out.write("".join(line for line in text.splitlines(True) if line not in [f"mod {gone};\n" for gone in empty]))
+    return own
+
+
+def stated(crate):
+    """The files of laws that the crate's statements rest on."""
+    name = os.path.basename(crate)
+    found, left = set(), [STATED[name]] if name in STATED else []
+    while left:
+        file = left.pop()
+        found.add(f"proofs/{file}.antt")
+        with open(os.path.join(crate, f"proofs/{file}.antt")) as text:
+            for word in re.findall(rf"^use Rattle\.{name}\.proofs\.(\w+)", text.read(), re.M):
+                if f"proofs/{word}.antt" not in found:
+                    left.append(word)
+    return found
 
 
 def checked(room, *words):
-    run = subprocess.run(["rt", "check", *words], capture_output=True, text=True, cwd=room)
+    """The verdict of one check, and its errors."""
+    run = subprocess.run(["rt", *words], capture_output=True, text=True, cwd=room)
     said = run.stdout + run.stderr
-    first = next((line for line in said.split("\n") if ": error" in line), "")
+    errors = [re.sub(r"^.*/crates/(rules/|lines/)?", "", line)[:240] for line in said.split("\n") if ": error" in line]
     if run.returncode == 0 and "logic=proved" in said:
-        return "survived", ""
-    return ("refused" if "logic=not-proved" in said else "untold"), re.sub(r"^.*/crates/(rules/)?", "", first)[:240]
+        return "survived", []
+    return ("refused" if "logic=not-proved" in said else "untold"), errors
 
 
-def tried(repo, known, m, source):
-    """The verdict on a mutant. What does not depend on the change is taken from the check of the crate as it is; a survivor is checked whole,
-    and the demands over it."""
+def tried(known, m, source):
+    """The verdict on a mutant. What does not depend on the change is taken from the check of the crate as it is. A mutant that passes is
+    checked whole, and the demands over it."""
     with tempfile.TemporaryDirectory() as room:
-        crate, own = copied(repo, room), os.path.join(room, "known")
-        shutil.copytree(known, own)
+        own = os.path.join(room, "own")
+        shutil.copytree(known, own, symlinks=True)
+        crate = os.path.join(own, "crates", m.crate)
         with open(os.path.join(crate, f"specs/{m.file}.antt"), "w") as out:
             out.write(m.text(source))
-        verdict, first = checked(room, crate, "--incremental", own)
+        verdict, errors = checked(own, "dev", m.crate)
         if verdict == "survived":
-            verdict, first = checked(room, "demands")
-        return ("void" if first.startswith(f"specs/{m.file}.antt") else verdict), first
+            verdict, errors = checked(own, "check", {"rules": "demands", "lines": "lines"}[m.crate])
+        first = errors[0] if errors else ""
+        if first.startswith(f"specs/{m.file}.antt"):
+            verdict = "void"
+        elif verdict == "refused" and stated(crate) and not any(e.split(":")[0] in stated(crate) for e in errors):
+            verdict = "beside"
+        return verdict, first
 
 
 def main():
@@ -238,38 +305,42 @@ def main():
     words.add_argument("--count", type=int, default=60)
     words.add_argument("--skip", type=int, default=0)
     words.add_argument("--only", default="")
+    words.add_argument("--crate", choices=sorted(FILES))
     words.add_argument("--list", action="store_true")
     given = words.parse_args()
     sources, found = {}, []
-    for file in FILES:
-        with open(os.path.join(given.repo, f"crates/rules/specs/{file}.antt")) as text:
-            sources[file] = text.read()
-        found += mutants(file, sources[file])
+    for crate in [given.crate] if given.crate else FILES:
+        for file in FILES[crate]:
+            with open(os.path.join(given.repo, f"crates/{crate}/specs/{file}.antt")) as text:
+                sources[crate, file] = text.read()
+            found += mutants((crate, file), sources[crate, file])
     if given.only:
         found = [m for m in found if m.name in given.only.split(",")]
     queue, spare = sample(found, given.count, given.seed)
     queue = queue[given.skip :]
     if given.list:
         for m in queue:
-            print(f"{m.file}.{m.name}: {m.what}")
-        print(f"{len(found)} mutants of {len({(m.file, m.name) for m in found})} definitions")
+            print(f"{m.crate} {m.file}.{m.name}: {m.what}")
+        print(f"{len(found)} mutants of {len({(m.crate, m.file, m.name) for m in found})} definitions")
         return 0
-    room = tempfile.TemporaryDirectory()
-    crate, known = copied(given.repo, room.name), os.path.join(room.name, "known")
-    os.mkdir(known)
-    verdict, first = checked(room.name, crate, "--incremental", known)
-    if verdict != "survived":
-        print(f"the crate as it is: {verdict}: {first}")
-        return 2
+    rooms, known = tempfile.TemporaryDirectory(), {}
+    for crate in sorted({m.crate for m in queue}):
+        known[crate] = os.path.join(rooms.name, crate)
+        copied(given.repo, known[crate], crate)
+        verdict, errors = checked(known[crate], "dev", crate)
+        if verdict != "survived":
+            print(f"crate {crate} as it is: {verdict}: {errors[:1]}")
+            return 2
     tally = {}
     while queue:
         m = queue.pop(0)
-        verdict, first = tried(given.repo, known, m, sources[m.file])
+        source = sources[m.crate, m.file]
+        verdict, first = tried(known[m.crate], m, source)
         tally[verdict] = tally.get(verdict, 0) + 1
-        line = sources[m.file].count("\n", 0, m.start) + 1
-        print(f"{verdict}\t{m.file}.antt:{line}\t{m.name}\t{m.what}\t{first}", flush=True)
+        line = source.count("\n", 0, m.start) + 1
+        print(f"{verdict}\t{m.crate}/specs/{m.file}.antt:{line}\t{m.name}\t{m.what}\t{first}", flush=True)
         if verdict == "void":
-            other = next((s for s in spare if s.name == m.name), None)
+            other = next((s for s in spare if (s.crate, s.name) == (m.crate, m.name)), None)
             if other:
                 spare.remove(other)
                 queue.append(other)

@@ -12,8 +12,7 @@ use Rattle.lines.specs.Lines.{hex, line}
 use Rattle.lines.specs.Wire.{numbersLine, holeLines, spoken}
 use Rattle.lines.specs.Format.{InRow, Spells, IsLine, TellsNumbers, TellsHoles, Tells, Fit, HolesFit, OutcomeFits}
 use Rattle.lines.specs.Statements.{EachCall, PrintsExactly, LineBytes, HolesExactly, SpeaksExactly}
-use Rattle.lines.proofs.Placed.{hex-length}
-use Rattle.lines.proofs.Worth.{hex-says}
+use Rattle.lines.proofs.Worth.{hex-length, hex-says}
 use Rattle.lines.proofs.Spelled.{AllLow, parts, spells-one}
 
 -- ---- numbers that have room, spelled

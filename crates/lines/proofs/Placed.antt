@@ -1,13 +1,14 @@
 -- Bytes written over a part of a buffer: one by one, and one part behind another. Assumes nothing.
-use mathlib.Core.Path.{_≡_, refl, sym, ap, _∙_}
+use mathlib.Core.Path.{_≡_, sym, ap, _∙_}
 use mathlib.Core.List.{List, [], _∷_, _++_, append-assoc}
-use Prim.Native.Nat.{ℕ, zero, suc, _+_, _-_, _/_, _%_, _≤_, _<_}
+use Prim.Native.Nat.{ℕ, suc, _+_, _-_, _/_, _%_, _≤_, _<_}
 use native.Mathlib.Omega.{arith}
 use native.Mathlib.Nat.{add-zero}
 use lib.ListN.{length, take, drop, set, length-append, length-take, length-drop, length-set, take-append-drop}
 use lib.Seq.{drop-cons, take-set-le, drop-set-lt, getD-set-same, take-at, drop-at, drop-drop, set-split}
 use Rattle.lines.specs.Lines.{glyph, hex, line}
 use Rattle.lines.specs.Printed.{placed}
+use Rattle.lines.proofs.Worth.{hex-length}
 
 -- ---- parts
 
@@ -60,11 +61,6 @@ placed-last new b at m l =
     (simp append-assoc)
 
 -- ---- digits and lines
-
-pub hex-length : (n x : ℕ) → length (hex n x) ≡ n
-unfolding hex
-hex-length zero x = refl
-hex-length (suc n) x = simp (length-append, hex-length n (x / 16)) (omega arith)
 
 -- one digit of n, the low one
 pub hex-on : (n x at : ℕ) (m : List ℕ) → 0 < n → at + n ≤ length m

@@ -1,15 +1,15 @@
 -- Digits in words and digits computed: what each is worth, and all of them together. Assumes nothing.
 use mathlib.Core.Path.{_≡_, refl, sym, ap, _∙_}
-use mathlib.Core.Bool.{true}
+use mathlib.Core.Bool.{true, _&&_, cond}
 use mathlib.Core.List.{List, [], _∷_, _++_}
 use mathlib.Core.Logic.{inl, inr, ⊎-elim}
-use Prim.Native.Nat.{ℕ, zero, suc, _+_, _*_, _/_, _%_, _^_, _<_}
+use Prim.Native.Nat.{ℕ, zero, suc, _+_, _*_, _/_, _%_, _-_, _^_, _≤_, _<_}
 use native.Mathlib.Omega.{arith}
 use native.Mathlib.Nat.{pow-suc, mul-le-mul-right, mod-lt, div-add-mod', div-lt-iff-lt-mul}
-use lib.Dec.{ltb}
+use lib.Dec.{leb, ltb}
 use lib.ListN.{length, length-append}
-use borrow.Author.Tests.{ltb-true, lt-ltb, le-ltb, le-leb, lt-leb}
-use Rattle.rules.proofs.Cases.{by-le, and-left, and-right, both}
+use borrow.Author.Tests.{leb-true, ltb-true, lt-ltb, le-ltb, le-leb}
+use Rattle.rules.proofs.Cases.{apart, by-le, by-test, and-left, and-right, both}
 use Rattle.lines.specs.Frames.{digit, digits, value}
 use Rattle.lines.specs.Lines.{glyph, hex}
 use Rattle.lines.specs.Format.{Digit, Worth}
@@ -19,24 +19,33 @@ use Rattle.lines.specs.Format.{Digit, Worth}
 pub digit-low : (b v : ℕ) → Digit b v → v < 16
 digit-low b v d = ⊎-elim (λ (l, m, e). omega arith) (λ (l, m, e). omega arith) d
 
+-- a choice between two ends, and outside of them
+by-ends {ℓ} : (P : ℕ → Type ℓ) (lo b hi x y : ℕ) → (lo ≤ b → b ≤ hi → P x) → ((lo ≤ b → b ≤ hi → ⊥) → P y)
+    → P (cond (leb lo b && leb b hi) x y)
+by-ends P lo b hi x y f g =
+    by-test P (leb lo b && leb b hi) x y
+    (λ t. f (leb-true lo b (and-left (leb lo b) (leb b hi) t)) (leb-true b hi (and-right (leb lo b) (leb b hi) t)))
+    (λ t. g (λ l m. apart (both (le-leb lo b l) (le-leb b hi m)) t))
+
 pub digit-is : (b v : ℕ) → Digit b v → digit b ≡ v
 unfolding digit
 digit-is b v d =
-    ⊎-elim (λ (l, m, e). rw (le-leb 48 b l, le-leb b 57 m) (sym e))
-    (λ (l, m, e). rw (le-leb 48 b (omega arith), lt-leb b 57 (omega arith), le-leb 97 b l, le-leb b 102 m) (omega arith)) d
+    by-ends (λ n. n ≡ v) 48 b 57 (b - 48) _
+    (λ l m. ⊎-elim (λ (l′, m′, e). omega arith) (λ (l′, m′, e). omega arith) d)
+    (λ o.
+    by-ends (λ n. n ≡ v) 97 b 102 (b - 87) 16
+    (λ l m. ⊎-elim (λ (l′, m′, e). omega arith) (λ (l′, m′, e). omega arith) d)
+    (λ u. ⊎-elim (λ (l′, m′, e). absurd (o l′ m′)) (λ (l′, m′, e). absurd (u l′ m′)) d))
 
 pub digit-says : (b : ℕ) → digit b < 16 → Digit b (digit b)
 unfolding digit
 digit-says b =
-    by-le 48 b
-    (λ l. by-le b 57
-    (λ m. rw (le-leb 48 b l, le-leb b 57 m) (λ q. inl (l, m, refl)))
-    (λ m. by-le 97 b
-    (λ l′. by-le b 102
-    (λ m′. rw (le-leb 48 b l, lt-leb b 57 m, le-leb 97 b l′, le-leb b 102 m′) (λ q. inr (l′, m′, omega arith)))
-    (λ m′. rw (le-leb 48 b l, lt-leb b 57 m, le-leb 97 b l′, lt-leb b 102 m′) (λ q. absurd (omega arith))))
-    (λ l′. rw (le-leb 48 b l, lt-leb b 57 m, lt-leb 97 b l′) (λ q. absurd (omega arith)))))
-    (λ l. rw (lt-leb 48 b l, lt-leb 97 b (omega arith)) (λ q. absurd (omega arith)))
+    by-ends (λ n. n < 16 → Digit b n) 48 b 57 (b - 48) _
+    (λ l m k. inl (l, m, refl))
+    (λ o.
+    by-ends (λ n. n < 16 → Digit b n) 97 b 102 (b - 87) 16
+    (λ l m k. inr (l, m, omega arith))
+    (λ u k. absurd (omega arith)))
 
 -- a value has one digit
 pub digit-one : (a b v : ℕ) → Digit a v → Digit b v → a ≡ b
@@ -116,6 +125,11 @@ worth-one (c ∷ cs) (b ∷ bs) n l (v, r, d, w, e) (v′, r′, d′, w′, e�
     rw (first, rest)
 
 -- ---- digits computed
+
+pub hex-length : (n x : ℕ) → length (hex n x) ≡ n
+unfolding hex
+hex-length zero x = refl
+hex-length (suc n) x = simp (length-append, hex-length n (x / 16)) (omega arith)
 
 -- one more behind them
 worth-more : (bs : List ℕ) (n b v : ℕ) → Worth bs n → Digit b v → Worth (bs ++ (b ∷ [])) (n * 16 + v)
