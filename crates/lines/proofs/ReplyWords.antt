@@ -145,4 +145,4 @@ enough (is.Resize a n align k) h m w = call-enough (resize (addr a) n align k) h
 enough is.Bad h m w = omega (arith, line-length 0xff 0 0)
 
 pub sizes : Sizes
-sizes = record { arena = refl; holes = refl; enough = λ bytes. enough (frameOf bytes) }
+sizes = record { frame = refl; arena = refl; holes = refl; enough = λ bytes. enough (frameOf bytes) }

@@ -12,7 +12,7 @@ use Rattle.rules.specs.declared.Heap.{Heap}
 use Rattle.lines.specs.declared.Replied.{Replied}
 use Rattle.lines.specs.declared.reading.Frame.{Frame}
 use Rattle.lines.specs.declared.reading.Frame.the-variants as is
-use Rattle.lines.specs.Frames.{frameOf}
+use Rattle.lines.specs.Frames.{frameDigits, mostNumbers, frameOf}
 use Rattle.lines.specs.Lines.{line}
 use Rattle.lines.specs.Wire.{holeLines, spoken, Reply, replied, arenaBytes, mostHoles, Answers}
 use Rattle.lines.specs.Format.{IsFrame, NoFrame, digitsOf, IsLine, TellsHoles, Tells, ComesTo, HolesFit, OutcomeFits, FrameFits}
@@ -87,8 +87,10 @@ AnswersExactly =
     × (ComesTo bytes h m (record { printed = take (r .len) out; heap = r .heap; arena = m′ }) × (r .len ≤ 71715)
     → Answers (replied bytes h m) r out m′)
 
--- on the program's arena of 65,536 bytes no answer is longer than that: a line for the list, and 2,048 for holes
+-- the longest frame has 66 digits. On the program's arena of 65,536 bytes the longest answer has 71,715: a line for the list, and 2,048 for
+-- holes
 pub record Sizes : Type 0 where
+  pub frame : frameDigits mostNumbers ≡ 66
   pub arena : arenaBytes ≡ 65536
   pub holes : mostHoles ≡ 2048
   pub enough : (bytes : List ℕ) (h : Heap) (m : List ℕ) → length m ≡ 65536 → length (replied bytes h m .printed) ≤ 71715
