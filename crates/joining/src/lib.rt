@@ -1,6 +1,6 @@
 // The list of holes, relinked: a hole before leads to a new place, a free span becomes a hole and joins
-// every hole that it touches, and so does what remains behind a block that is resized. Nothing is written
-// here: a call decides which heads are to be.
+// every hole that it touches, and what remains behind a block that is resized becomes one, or nothing does.
+// Nothing is written here: a call decides which heads are to be.
 use hole::addr_of;
 use hole::nothing;
 use hole::place_of;

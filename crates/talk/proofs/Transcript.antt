@@ -8,11 +8,11 @@ use lib.ListN.{length, take, length-append, length-take}
 use lib.Seq.{take-all, take-at}
 use borrow.Author.Tests.{lt-ltb, le-ltb}
 use Rattle.rules.specs.declared.Heap.{Heap}
-use Rattle.rules.proofs.Cases.{by-le}
+use Rattle.rules.proofs.Cases.{by-eq, by-le}
 use Rattle.lines.specs.Frames.{frameOf}
 use Rattle.lines.specs.Wire.{reply, replied}
 use Rattle.lines.proofs.Frames.{line-longer}
-use Rattle.talk.specs.Hearing.{lineRoom, Come, keptWith, heard}
+use Rattle.talk.specs.Hearing.{lf, lineRoom, Come, keptWith, hearing, heard}
 use Rattle.talk.specs.Transcript.{NoEnd, sent, Transcript, at, Talks}
 use Rattle.talk.proofs.Hearing.{heard-append, hearing-lf, hearing-other}
 
@@ -80,5 +80,23 @@ lines (l ∷ ls) rest h h′ m m′ waits _ ns n (Transcript.next {answers = ans
     ∙ lines ls rest (r .heap) h′ (r .arena) m′ (waits ++ r .printed) answers (λ k i. ns k (List·Memᴰ·tail i)) n t
     ∙ ap (at h′ m′ (take 67 rest)) (append-assoc waits (r .printed) answers)
 
+-- ---- the answers that wait
+
+hearing-waits : (b : ℕ) (c : Come) → (answers : List ℕ) × (hearing b c .waits ≡ c .waits ++ answers)
+hearing-waits b c =
+    by-eq b lf
+    (λ e. (replied (c .kept) (c .heap) (c .arena) .printed, ap (λ (d : Come). d .waits) (hearing-lf b c e)))
+    (λ n. ([], ap (λ (d : Come). d .waits) (hearing-other b c n) ∙ sym (append-nil (c .waits))))
+
+waits : (bytes : List ℕ) (c : Come) → (answers : List ℕ) × (heard bytes c .waits ≡ c .waits ++ answers)
+unfolding heard
+waits [] c = ([], sym (append-nil (c .waits)))
+waits (b ∷ bs) c =
+    let one = hearing-waits b c in
+    let more = waits bs (hearing b c) in (
+      one .0 ++ more .0,
+      more .1 ∙ ap (λ (w : List ℕ). w ++ more .0) (one .1) ∙ append-assoc (c .waits) (one .0) (more .0),
+    )
+
 pub talks : Talks
-talks = record { pieces = heard-append; lines = lines; long = long }
+talks = record { pieces = heard-append; lines = lines; waits = waits; long = long }

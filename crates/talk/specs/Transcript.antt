@@ -40,5 +40,7 @@ pub record Talks : Type 0 where
       → NoEnd rest
       → Transcript ls h m answers h′ m′
       → heard (sent ls ++ rest) (at h m [] waits) ≡ at h′ m′ (take 67 rest) (waits ++ answers)
+  -- the answers that wait stay, and further ones stand behind them
+  pub waits : (bytes : List ℕ) (c : Come) → (answers : List ℕ) × (heard bytes c .waits ≡ c .waits ++ answers)
   -- what is kept of a longer line is no frame, and no more is the line
   pub long : (l : List ℕ) → frameOf (take 67 l) ≡ frameOf l
