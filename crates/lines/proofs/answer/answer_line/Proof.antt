@@ -166,7 +166,7 @@ returns-8 c =
     let f = c .before .before in
     let after-read-frame = f .before .before in
     rw (comes-to after-read-frame (f .enum-told2 .given .1))
-    (refl, rw (c .put-line .ensures) (line-front 0xff 0 0 _), refl, search needs)
+    (refl, rw (c .put-line .ensures) (line-front _ 0 0 _), refl, search needs)
 
 pub answer-line-spec : {M : Type 1} → statement M
 answer-line-spec =
