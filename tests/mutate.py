@@ -1,6 +1,6 @@
 #!/usr/bin/env python3
-"""A trial of the definitions of crates rules and lines: one place is changed at a time, and the crate checked again, without its code. A
-mutant of rules that is still proved is then checked under crate demands.
+"""A trial of the definitions of crates rules, lines, talk and c_face: one place is changed at a time, and the crate checked again, without
+its code. A mutant of rules that is still proved is then checked under crate demands.
 
 A mutant that is still proved either means the same as the definition, or shows a statement that is too weak.
 
@@ -26,10 +26,19 @@ import tempfile
 FILES = {
     "rules": "Fixed Tests Round Kinds Words Holes Sound Allocate Free Resize Calls Readers Refusals Answers Outcome".split(),
     "lines": "Frames Lines Printed Wire".split(),
+    "talk": ["Hearing"],
+    "c_face": ["Face"],
 }
-# what a crate's trial needs beside it, and what its statements are proved in; in rules, all
-BESIDE = {"rules": "demands", "lines": "rules"}
-STATED = {"lines": "Format"}
+# the crates of a trial, each with those that it builds on once its code is left out; and what a crate's statements are proved in; in rules, all
+ROOMS = {
+    "rules": {"rules": "", "demands": "rules"},
+    "lines": {"rules": "", "lines": "rules"},
+    "talk": {"rules": "", "lines": "rules", "talk": "rules lines"},
+    "c_face": {"rules": "", "c_face": "rules"},
+}
+STATED = {"lines": "Format", "talk": "Transcript", "c_face": "Statements"}
+# bounds that only code is held to: without it nothing refuses a change of them
+BOUNDS = {"answersRoom", "Bounded", "Hears"}
 
 # one name for another of the same type
 SWAPS = [
@@ -225,32 +234,38 @@ def sample(found, count, seed):
 def types(source):
     """The types that a source file declares, and the modules below it, without any function."""
     blocks = re.findall(r"^pub (?:enum|struct) .*?^}\n", source, re.M | re.S)
-    return "".join(re.findall(r"^mod \w+;\n|^use rules::\w+;\n", source, re.M) + blocks)
+    uses = re.findall(r"^use rules::\w+;\n", source, re.M) if blocks else []
+    return "".join(re.findall(r"^(?:pub )?mod \w+;\n", source, re.M) + uses + blocks)
 
 
 def copied(repo, room, crate):
-    """A repository of the crate and of what its trial needs beside it. The code of lines stays out, and so do the proofs of its functions:
-    what refuses a mutant there is a law or a statement."""
-    for name in (crate, BESIDE[crate]):
+    """A repository of the crate and of what its trial needs beside it. Code stays out, and so do the proofs of functions: what refuses a
+    mutant is a law or a statement."""
+    for name in ROOMS[crate]:
         for part in ("src", "specs", "proofs"):
             shutil.copytree(os.path.join(repo, "crates", name, part), os.path.join(room, "crates", name, part))
+        if name not in ROOMS["rules"]:
+            stripped(os.path.join(room, "crates", name))
     with open(os.path.join(room, "crates.txt"), "w") as out:
-        out.write(f"rules:\n{'demands' if crate == 'rules' else crate}: rules\n")
-    own = os.path.join(room, "crates", crate)
-    if crate == "lines":
-        kept = {}
-        for file in os.listdir(os.path.join(own, "src")):
-            with open(os.path.join(own, "src", file)) as text:
-                kept[file[:-3]] = types(text.read())
-            shutil.rmtree(os.path.join(own, "proofs", file[:-3]), ignore_errors=True)
-        empty = [name for name, text in kept.items() if not text]
-        for name, text in kept.items():
-            if name in empty:
-                os.remove(os.path.join(own, "src", name + ".rt"))
-                continue
-            with open(os.path.join(own, "src", name + ".rt"), "w") as out:
-                out.write("".join(line for line in text.splitlines(True) if line not in [f"mod {gone};\n" for gone in empty]))
-    return own
+        out.writelines(f"{name}: {below}\n" for name, below in ROOMS[crate].items())
+
+
+def stripped(own):
+    """The crate's types are left of its code."""
+    kept = {}
+    for file in os.listdir(os.path.join(own, "src")):
+        with open(os.path.join(own, "src", file)) as text:
+            kept[file[:-3]] = types(text.read())
+    for name in os.listdir(os.path.join(own, "proofs")):
+        if os.path.isdir(os.path.join(own, "proofs", name)):
+            shutil.rmtree(os.path.join(own, "proofs", name))
+    empty = [name for name, text in kept.items() if not text and name != "lib"]
+    for name, text in kept.items():
+        if name in empty:
+            os.remove(os.path.join(own, "src", name + ".rt"))
+            continue
+        with open(os.path.join(own, "src", name + ".rt"), "w") as out:
+            out.write("".join(line for line in text.splitlines(True) if not re.match(rf"(pub )?mod ({'|'.join(empty)});", line)))
 
 
 def stated(crate):
@@ -271,7 +286,7 @@ def checked(room, *words):
     """The verdict of one check, and its errors."""
     run = subprocess.run(["rt", *words], capture_output=True, text=True, cwd=room)
     said = run.stdout + run.stderr
-    errors = [re.sub(r"^.*/crates/(rules/|lines/)?", "", line)[:240] for line in said.split("\n") if ": error" in line]
+    errors = [re.sub(r"^.*/crates/(rules/|lines/|talk/|c_face/)?", "", line)[:240] for line in said.split("\n") if ": error" in line]
     if run.returncode == 0 and "logic=proved" in said:
         return "survived", []
     return ("refused" if "logic=not-proved" in said else "untold"), errors
@@ -288,7 +303,7 @@ def tried(known, m, source):
             out.write(m.text(source))
         verdict, errors = checked(own, "dev", m.crate)
         if verdict == "survived":
-            verdict, errors = checked(own, "check", {"rules": "demands", "lines": "lines"}[m.crate])
+            verdict, errors = checked(own, "check", "demands" if m.crate == "rules" else m.crate)
         first = errors[0] if errors else ""
         if first.startswith(f"specs/{m.file}.antt"):
             verdict = "void"
@@ -313,7 +328,7 @@ def main():
         for file in FILES[crate]:
             with open(os.path.join(given.repo, f"crates/{crate}/specs/{file}.antt")) as text:
                 sources[crate, file] = text.read()
-            found += mutants((crate, file), sources[crate, file])
+            found += [m for m in mutants((crate, file), sources[crate, file]) if m.name not in BOUNDS]
     if given.only:
         found = [m for m in found if m.name in given.only.split(",")]
     queue, spare = sample(found, given.count, given.seed)

@@ -73,7 +73,7 @@ pub record Meets (c : Call) (s : Seen) : Type 0 where
   pub seven : length (s .words) ≡ 7
   pub shows : Shows (after c (heapOf (s .words)) (s .bytes)) (s .number) (s .wordsAfter) (s .answer) (s .bytesAfter)
 
--- ---- a refused call: "A refusal answers its number and zeros, except 7, whose count is the number of holes. Heap, arena and lent rows stay."
+-- ---- a refused call: nothing is changed, and the answer has zeros but for the count of 7
 
 pub record Zeros (number : ℕ) (answer : List ℕ) : Type 0 where
   pub one : getD answer 0 0 ≡ 0
@@ -106,7 +106,7 @@ pub record Holds (ws bytes : List ℕ) (ks : List Hole) : Type 0 where
   pub heads : Hold (getD ws 0 0) bytes (getD ws 4 0) ks
   pub sound : (h : Heap) → Names ws h → Sound h ks
 
--- "each head holds its hole's numbers. Every byte that lies in no head of the new list is what it was before."
+-- the heads hold the holes that are left, and every byte in none of them is what it was
 pub record Leaves (s : Seen) (ks : List Hole) : Type 0 where
   pub holds : Holds (s .wordsAfter) (s .bytesAfter) ks
   pub long : length (s .bytesAfter) ≡ length (s .bytes)

@@ -14,7 +14,7 @@ use Rattle.lines.specs.declared.reading.Frame.{Frame}
 use Rattle.lines.specs.declared.reading.Frame.the-variants as is
 use Rattle.lines.specs.Wire.{Reply}
 
--- ---- "lowercase hexadecimal"
+-- ---- digits
 
 -- the byte b is a digit, worth v: 0 to 9 are the bytes 48 to 57, a to f the bytes 97 to 102
 abbrev pub Digit : ℕ → ℕ → Type 0
@@ -25,7 +25,7 @@ abbrev pub Worth : List ℕ → ℕ → Type 0
 Worth [] n = n ≡ 0
 Worth (b ∷ bs) n = (v : ℕ) × (rest : ℕ) × Digit b v × Worth bs rest × (n ≡ v * 16 ^ length bs + rest)
 
--- ---- "One byte for the call, then numbers of 8 bytes, high byte first."
+-- ---- numbers
 
 -- one byte: two digits
 abbrev pub OneByte : List ℕ → ℕ → Type 0
@@ -57,7 +57,7 @@ IsFrame bytes (is.Room align) = Spells bytes 0x06 (align ∷ [])
 IsFrame bytes (is.Resize a s align n) = Spells bytes 0x07 (a ∷ s ∷ align ∷ n ∷ [])
 IsFrame bytes is.Bad = ⊥
 
--- "Any other line, an empty one too"
+-- the line is the frame of no call; so is an empty one
 abbrev pub NoFrame : List ℕ → Type 0
 NoFrame bytes = (f : Frame) → IsFrame bytes f → ⊥
 
@@ -72,7 +72,7 @@ digitsOf (is.Room align) = 18
 digitsOf (is.Resize a s align n) = 66
 digitsOf is.Bad = 0
 
--- ---- "Each answer is a line of one byte (0 or the refusal) and two numbers"
+-- ---- answers: a line says a byte and two numbers
 
 -- LF is the byte 10
 abbrev pub IsLine : List ℕ → ℕ → ℕ → ℕ → Type 0
@@ -81,7 +81,7 @@ IsLine bytes code one two = (digits : List ℕ) × (bytes ≡ digits ++ (10 ∷ 
 abbrev pub TellsNumbers : List ℕ → Numbers → Type 0
 TellsNumbers bytes n = IsLine bytes (n .no) (n .one) (n .two)
 
--- "then per hole a line 20, address, size", in the order of the holes
+-- behind the line of the list, a line for each hole, in their order: 20, its address and its size
 abbrev pub TellsHoles : List ℕ → List Hole → Type 0
 TellsHoles bytes [] = bytes ≡ []
 TellsHoles bytes (k ∷ ks) =
@@ -102,7 +102,7 @@ pub record Does (c : Call) (h : Heap) (m : List ℕ) (r : Reply) : Type 0 where
   pub heap : r .heap ≡ after c h m .heap
   pub arena : r .arena ≡ after c h m .arena
 
--- "gives ff, 0, 0 and does nothing"
+-- ff and two zeros are printed, and heap and arena stay
 pub record DoesNothing (h : Heap) (m : List ℕ) (r : Reply) : Type 0 where
   pub printed : IsLine (r .printed) 0xff 0 0
   pub heap : r .heap ≡ h

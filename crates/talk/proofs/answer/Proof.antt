@@ -28,8 +28,9 @@ returns : tie.Need-returns
 returns c =
     let start = c .before .before .before .before .before .before .before .before .before .before .before .before in
     let said = c .before .before .before .before .before .before .answer-line in
+    let put = c .before .before in
     let a = start .args in (
-      answered-by (a .t) (a .arena .now) (a .line .now) (a .waiting .now) (said .result) _ _ _ (said .ensures) (c .before .before .append .ensures),
+      answered-by (a .t) (a .arena .now) (a .line .now) (a .waiting .now) (said .result) _ _ _ (said .ensures) (put .append .ensures),
       refl,
       omega (arith, start .pre, said .ensures .3),
     )

@@ -34,10 +34,11 @@ same-length c = search needs
 returns : tie.Need-returns
 returns c =
     let start = c .before .before .before .before .before .before .before in
+    let after-copy = c .before .before in
     let at = start .args .at in
     let w = start .args .waiting .now in
     copied at (start .args .n) (length w - at) w (start .args .reply .now) _ _
-    (omega (arith, start .pre)) (omega (arith, start .pre)) (c .before .before .copy .ensures .1)
+    (omega (arith, start .pre)) (omega (arith, start .pre)) (after-copy .copy .ensures .1)
 
 pub append-spec : {M : Type 1} → statement M
 append-spec =

@@ -33,7 +33,9 @@ flush-requires : tie.Need-flush-requires Inv-loop μ-loop
 flush-requires c κs = search needs
 
 returns : tie.Need-returns Inv-loop μ-loop
-returns c = ((c .before .before .before .before .before .hear .ensures .kept, refl), λ e. absurd (false≢true e))
+returns c =
+    let after-hear = c .before .before .before .before .before in
+    ((after-hear .hear .ensures .kept, refl), λ e. absurd (false≢true e))
 
 loop-less : tie.Need-loop-less Inv-loop μ-loop
 loop-less c =
