@@ -2,13 +2,8 @@
 # No division stands in the machine code of the library's calls: what a division would give is taken by masks.
 #
 # usage: tests/no_division.sh
-set -euo pipefail
-root=$(cd "$(dirname "$0")/.." && pwd)
-. "$root/tests/library.sh"
+. "$(dirname "$0")/preamble.sh"
 need_library "$root"
-library=$root/target/staticlib/libleanlantern.a
-work=$(mktemp -d)
-trap 'rm -rf "$work"' EXIT
 
 # the lines of a listing that divide: an instruction, or a call of the compiler's own division
 divisions() { grep -E '[[:space:]]([fsuv]?i?div[a-z]*|__u?(div|mod)[a-z]+[0-9])([[:space:]]|$|-)' "$1" || true; }
