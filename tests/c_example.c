@@ -42,125 +42,129 @@ static void line(uint64_t byte, uint64_t one, uint64_t two)
 static uint8_t arena[ARENA];
 
 /* the room report at an alignment is this one */
-static void room(const uint64_t heap[7], size_t len, uint64_t align, uint64_t no, uint64_t largest, uint64_t holes)
+static void room(const struct lantern_heap *heap, size_t len, uint64_t align, enum lantern_refusal no, uint64_t largest, uint64_t holes)
 {
-    uint64_t answer[2] = {~0ull, ~0ull};
-    uint64_t told = lantern_room(heap, arena, len, align, answer);
-    if (told != no || answer[0] != largest || answer[1] != holes) {
-        fprintf(stderr, "c_example: room at %llu: %llu, %llu, %llu\n", (unsigned long long)align, (unsigned long long)told,
-                (unsigned long long)answer[0], (unsigned long long)answer[1]);
+    struct lantern_answer answer = {~0ull, ~0ull};
+    uint64_t told = lantern_room(heap, arena, len, align, &answer);
+    if (told != no || answer.one != largest || answer.two != holes) {
+        fprintf(stderr, "c_example: room at %llu: %s, %llu, %llu\n", (unsigned long long)align, lantern_refusal_text(told),
+                (unsigned long long)answer.one, (unsigned long long)answer.two);
         wrong++;
     }
 }
 
 /* a resize is answered so; refused, it changes neither heap nor arena */
-static void resize(uint64_t heap[7], size_t len, uint64_t addr, uint64_t old_size, uint64_t align, uint64_t new_size, uint64_t no,
-                   uint64_t rounded, uint64_t used)
+static void resize(struct lantern_heap *heap, size_t len, uint64_t addr, uint64_t old_size, uint64_t align, uint64_t new_size,
+                   enum lantern_refusal no, uint64_t rounded, uint64_t used)
 {
     static uint8_t arena_before[ARENA];
-    uint64_t heap_before[7], answer[2] = {~0ull, ~0ull};
-    memcpy(heap_before, heap, sizeof heap_before);
+    struct lantern_heap heap_before = *heap;
+    struct lantern_answer answer = {~0ull, ~0ull};
     memcpy(arena_before, arena, sizeof arena);
-    uint64_t told = lantern_resize(heap, arena, len, addr, old_size, align, new_size, answer);
-    int changed = memcmp(heap_before, heap, sizeof heap_before) != 0 || memcmp(arena_before, arena, sizeof arena) != 0;
-    if (told != no || answer[0] != rounded || answer[1] != used || (no != 0 && changed)) {
-        fprintf(stderr, "c_example: resize at %llx from %llu to %llu: %llu, %llu, %llu%s\n", (unsigned long long)addr,
-                (unsigned long long)old_size, (unsigned long long)new_size, (unsigned long long)told, (unsigned long long)answer[0],
-                (unsigned long long)answer[1], no != 0 && changed ? ", and something changed" : "");
+    uint64_t told = lantern_resize(heap, arena, len, addr, old_size, align, new_size, &answer);
+    int changed = memcmp(&heap_before, heap, sizeof heap_before) != 0 || memcmp(arena_before, arena, sizeof arena) != 0;
+    if (told != no || answer.one != rounded || answer.two != used || (no != LANTERN_ACCEPTED && changed)) {
+        fprintf(stderr, "c_example: resize at %llx from %llu to %llu: %s, %llu, %llu%s\n", (unsigned long long)addr,
+                (unsigned long long)old_size, (unsigned long long)new_size, lantern_refusal_text(told), (unsigned long long)answer.one,
+                (unsigned long long)answer.two, no != LANTERN_ACCEPTED && changed ? ", and something changed" : "");
         wrong++;
     }
 }
 
 int main(void)
 {
-    uint64_t heap[7] = {0}, answer[2], addrs[ROWS], sizes[ROWS], no;
+    struct lantern_heap heap = {0};
+    struct lantern_answer answer;
+    uint64_t addrs[ROWS], sizes[ROWS], no;
 
-    no = lantern_open(heap, arena, ARENA, 0x1000, 0x40, answer);
-    line(no, answer[0], answer[1]);
-    no = lantern_allocate(heap, arena, ARENA, 1, 1, answer);
-    line(no, answer[0], answer[1]);
-    no = lantern_allocate(heap, arena, ARENA, 0x10, 0x20, answer);
-    line(no, answer[0], answer[1]);
-    no = lantern_allocate(heap, arena, ARENA, 0x18, 8, answer);
-    line(no, answer[0], answer[1]);
-    no = lantern_free(heap, arena, ARENA, 0x1000, 1, 1, answer);
-    line(no, answer[0], answer[1]);
-    no = lantern_extend(heap, arena, ARENA, 7, answer);
-    line(no, answer[0], answer[1]);
-    no = lantern_list(heap, arena, ARENA, addrs, ROWS, sizes, ROWS, answer);
-    line(no, answer[0], answer[1]);
-    for (uint64_t i = 0; no == 0 && i < answer[0] && i < ROWS; i++)
+    no = lantern_open(&heap, arena, ARENA, 0x1000, 0x40, &answer);
+    line(no, answer.one, answer.two);
+    no = lantern_allocate(&heap, arena, ARENA, 1, 1, &answer);
+    line(no, answer.one, answer.two);
+    no = lantern_allocate(&heap, arena, ARENA, 0x10, 0x20, &answer);
+    line(no, answer.one, answer.two);
+    no = lantern_allocate(&heap, arena, ARENA, 0x18, 8, &answer);
+    line(no, answer.one, answer.two);
+    no = lantern_free(&heap, arena, ARENA, 0x1000, 1, 1, &answer);
+    line(no, answer.one, answer.two);
+    no = lantern_extend(&heap, arena, ARENA, 7, &answer);
+    line(no, answer.one, answer.two);
+    no = lantern_list(&heap, arena, ARENA, addrs, ROWS, sizes, ROWS, &answer);
+    line(no, answer.one, answer.two);
+    for (uint64_t i = 0; no == LANTERN_ACCEPTED && i < answer.one && i < ROWS; i++)
         line(0x20, addrs[i], sizes[i]);
 
-    if (lantern_bottom(heap) != 0x1000 || lantern_top(heap) != 0x1047 || lantern_size(heap) != 0x40 || lantern_used(heap) != 0x10
-        || lantern_free_bytes(heap) != 0x30) {
+    if (lantern_bottom(&heap) != 0x1000 || lantern_top(&heap) != 0x1047 || lantern_size(&heap) != 0x40 || lantern_used(&heap) != 0x10
+        || lantern_free_bytes(&heap) != 0x30) {
         fprintf(stderr, "c_example: a reader differs\n");
         return 1;
     }
 
     /* holes of 32 at 0x1000 and of 16 at 0x1030 */
-    room(heap, ARENA, 1, 0, 0x20, 2);
-    room(heap, ARENA, 0x20, 0, 0x20, 2);
-    room(heap, ARENA, 0x2000, 0, 0, 2);
-    room(heap, ARENA, 1ull << 62, 0, 0, 2);
+    room(&heap, ARENA, 1, LANTERN_ACCEPTED, 0x20, 2);
+    room(&heap, ARENA, 0x20, LANTERN_ACCEPTED, 0x20, 2);
+    room(&heap, ARENA, 0x2000, LANTERN_ACCEPTED, 0, 2);
+    room(&heap, ARENA, 1ull << 62, LANTERN_ACCEPTED, 0, 2);
     /* numbers that are no alignment, and what is tested before: an unopened heap, another length, a heap that is not sound */
-    room(heap, ARENA, 0, 6, 0, 0);
-    room(heap, ARENA, 3, 6, 0, 0);
-    room(heap, ARENA, 1ull << 63, 6, 0, 0);
-    uint64_t unopened[7] = {0}, unsound[7];
-    memcpy(unsound, heap, sizeof unsound);
-    unsound[6] += 8;
-    room(unopened, ARENA, 3, 3, 0, 0);
-    room(heap, ARENA - 1, 3, 4, 0, 0);
-    room(unsound, ARENA, 3, 5, 0, 0);
-    room(unsound, ARENA, 8, 5, 0, 0);
+    room(&heap, ARENA, 0, LANTERN_BAD_LAYOUT, 0, 0);
+    room(&heap, ARENA, 3, LANTERN_BAD_LAYOUT, 0, 0);
+    room(&heap, ARENA, 1ull << 63, LANTERN_BAD_LAYOUT, 0, 0);
+    struct lantern_heap unopened = {0}, unsound = heap;
+    unsound.used += 8;
+    room(&unopened, ARENA, 3, LANTERN_UNOPENED, 0, 0);
+    room(&heap, ARENA - 1, 3, LANTERN_OTHER_LENGTH, 0, 0);
+    room(&unsound, ARENA, 3, LANTERN_NOT_SOUND, 0, 0);
+    room(&unsound, ARENA, 8, LANTERN_NOT_SOUND, 0, 0);
     /* a hole of 48 at 0x1010, of which 32 lie behind a multiple of 32 */
-    if (lantern_free(heap, arena, ARENA, 0x1020, 0x10, 0x20, answer) != 0 || lantern_allocate(heap, arena, ARENA, 1, 1, answer) != 0) {
+    if (lantern_free(&heap, arena, ARENA, 0x1020, 0x10, 0x20, &answer) != LANTERN_ACCEPTED
+        || lantern_allocate(&heap, arena, ARENA, 1, 1, &answer) != LANTERN_ACCEPTED) {
         fprintf(stderr, "c_example: no hole of 48 is made\n");
         return 1;
     }
-    room(heap, ARENA, 1, 0, 0x30, 1);
-    room(heap, ARENA, 0x20, 0, 0x20, 1);
-    if (lantern_allocate(heap, arena, ARENA, 0x30, 0x20, answer) != 7 || lantern_allocate(heap, arena, ARENA, 0x30, 1, answer) != 0) {
+    room(&heap, ARENA, 1, LANTERN_ACCEPTED, 0x30, 1);
+    room(&heap, ARENA, 0x20, LANTERN_ACCEPTED, 0x20, 1);
+    if (lantern_allocate(&heap, arena, ARENA, 0x30, 0x20, &answer) != LANTERN_NO_ROOM
+        || lantern_allocate(&heap, arena, ARENA, 0x30, 1, &answer) != LANTERN_ACCEPTED) {
         fprintf(stderr, "c_example: the room report is not what allocate grants\n");
         return 1;
     }
     /* no hole */
-    room(heap, ARENA, 1, 0, 0, 0);
+    room(&heap, ARENA, 1, LANTERN_ACCEPTED, 0, 0);
 
     /* blocks of 16 at 0x1000 and of 48 at 0x1010: sizes that round alike, and 8 more or less where there is no hole */
     for (int i = 0; i < 0x30; i++)
         arena[0x10 + i] = (uint8_t)(i + 1);
-    resize(heap, ARENA, 0x1000, 1, 1, 0, 0, 0x10, 0x40);
-    resize(heap, ARENA, 0x1000, 0, 1, 0x18, 10, 0, 0);
-    resize(heap, ARENA, 0x1010, 0x30, 1, 0x28, 10, 0, 0);
+    resize(&heap, ARENA, 0x1000, 1, 1, 0, LANTERN_ACCEPTED, 0x10, 0x40);
+    resize(&heap, ARENA, 0x1000, 0, 1, 0x18, LANTERN_BAD_STRETCH, 0, 0);
+    resize(&heap, ARENA, 0x1010, 0x30, 1, 0x28, LANTERN_BAD_STRETCH, 0, 0);
     /* 24 less is a hole of 24 at 0x1028: part of it, all but 8, more than it, and all of it; the first 24 bytes stay throughout */
-    resize(heap, ARENA, 0x1010, 0x30, 1, 0x18, 0, 0x18, 0x28);
-    room(heap, ARENA, 1, 0, 0x18, 1);
-    resize(heap, ARENA, 0x1010, 0x18, 1, 0x20, 0, 0x20, 0x30);
-    room(heap, ARENA, 1, 0, 0x10, 1);
-    resize(heap, ARENA, 0x1010, 0x20, 1, 0x28, 10, 0, 0);
-    resize(heap, ARENA, 0x1010, 0x20, 1, 0x31, 10, 0, 0);
-    resize(heap, ARENA, 0x1010, 0x20, 1, 0x30, 0, 0x30, 0x40);
-    room(heap, ARENA, 1, 0, 0, 0);
+    resize(&heap, ARENA, 0x1010, 0x30, 1, 0x18, LANTERN_ACCEPTED, 0x18, 0x28);
+    room(&heap, ARENA, 1, LANTERN_ACCEPTED, 0x18, 1);
+    resize(&heap, ARENA, 0x1010, 0x18, 1, 0x20, LANTERN_ACCEPTED, 0x20, 0x30);
+    room(&heap, ARENA, 1, LANTERN_ACCEPTED, 0x10, 1);
+    resize(&heap, ARENA, 0x1010, 0x20, 1, 0x28, LANTERN_BAD_STRETCH, 0, 0);
+    resize(&heap, ARENA, 0x1010, 0x20, 1, 0x31, LANTERN_BAD_STRETCH, 0, 0);
+    resize(&heap, ARENA, 0x1010, 0x20, 1, 0x30, LANTERN_ACCEPTED, 0x30, 0x40);
+    room(&heap, ARENA, 1, LANTERN_ACCEPTED, 0, 0);
     for (int i = 0; i < 0x18; i++)
         if (arena[0x10 + i] != i + 1) {
             fprintf(stderr, "c_example: byte %d of the resized block changed\n", i);
             return 1;
         }
-    /* no block that could be held, though 10 would hold too; no alignment, too large a size, old or new; the largest that is not */
-    resize(heap, ARENA, 0x1008, 0x10, 1, 0x18, 8, 0, 0);
-    resize(heap, ARENA, 0x1010, 0x30, 3, 0x30, 6, 0, 0);
-    resize(heap, ARENA, 0x1010, ~0ull, 1, 0x30, 6, 0, 0);
-    resize(heap, ARENA, 0x1010, 0x30, 1, ~0ull, 6, 0, 0);
-    resize(heap, ARENA, 0x1010, 0x30, 8, (1ull << 63) - 8, 10, 0, 0);
+    /* no block that could be held, though the stretch is bad too; no alignment, too large a size, old or new; the
+     * largest that is not */
+    resize(&heap, ARENA, 0x1008, 0x10, 1, 0x18, LANTERN_BAD_SPAN, 0, 0);
+    resize(&heap, ARENA, 0x1010, 0x30, 3, 0x30, LANTERN_BAD_LAYOUT, 0, 0);
+    resize(&heap, ARENA, 0x1010, ~0ull, 1, 0x30, LANTERN_BAD_LAYOUT, 0, 0);
+    resize(&heap, ARENA, 0x1010, 0x30, 1, ~0ull, LANTERN_BAD_LAYOUT, 0, 0);
+    resize(&heap, ARENA, 0x1010, 0x30, 8, (1ull << 63) - 8, LANTERN_BAD_STRETCH, 0, 0);
     /* what is tested before */
-    memcpy(unsound, heap, sizeof unsound);
-    unsound[6] -= 8;
-    resize(unopened, ARENA, 0x1010, 0x30, 3, 0x30, 3, 0, 0);
-    resize(heap, ARENA - 1, 0x1010, 0x30, 3, 0x30, 4, 0, 0);
-    resize(unsound, ARENA, 0x1010, 0x30, 3, 0x30, 5, 0, 0);
-    resize(unsound, ARENA, 0x1010, 0x30, 1, 0x30, 5, 0, 0);
+    unsound = heap;
+    unsound.used -= 8;
+    resize(&unopened, ARENA, 0x1010, 0x30, 3, 0x30, LANTERN_UNOPENED, 0, 0);
+    resize(&heap, ARENA - 1, 0x1010, 0x30, 3, 0x30, LANTERN_OTHER_LENGTH, 0, 0);
+    resize(&unsound, ARENA, 0x1010, 0x30, 3, 0x30, LANTERN_NOT_SOUND, 0, 0);
+    resize(&unsound, ARENA, 0x1010, 0x30, 1, 0x30, LANTERN_NOT_SOUND, 0, 0);
     if (wrong != 0)
         return 1;
     if (printed != LINES || differing != 0) {
