@@ -4,11 +4,11 @@ its code. A mutant of rules that is still proved is then checked under crate dem
 
 A mutant that is still proved either means the same as the definition, or shows a statement that is too weak.
 
-    tests/mutate.py                     about 60 mutants, spread over all definitions
-    tests/mutate.py --count 0           all of them
-    tests/mutate.py --crate lines       those of one crate
-    tests/mutate.py --seed 3 --list     only say which would be tried
-    tests/mutate.py --only gap,suits    those of some definitions
+    tools/mutate.py                     about 60 mutants, spread over all definitions
+    tools/mutate.py --count 0           all of them
+    tools/mutate.py --crate lines       those of one crate
+    tools/mutate.py --seed 3 --list     only say which would be tried
+    tools/mutate.py --only gap,suits    those of some definitions
 
 Each line of the report is: verdict, place, definition, what was changed, and the first error. `refused`: a proof no longer holds. `beside`: only
 laws that code is proved with no longer hold, and no statement rests on them. `void`: the changed definition itself has no meaning (a name out
