@@ -1,11 +1,13 @@
 #!/usr/bin/env bash
-# The paper's wire example through bindings/leanlantern.rs: compiles rust_example.rs, links the static library and runs it.
+# The paper's wire example through the Rust package: compiles bindings/src and rust_example.rs with rustc alone and runs it.
 set -euo pipefail
 root=$(cd "$(dirname "$0")/.." && pwd)
 . "$root/tests/library.sh"
+. "$root/tests/bindings.sh"
 need_library "$root"
 work=$(mktemp -d)
 trap 'rm -rf "$work"' EXIT
-rustc --edition 2021 -O -D warnings "$root/tests/rust_example.rs" -L "$root/target/staticlib" -l static=leanlantern -o "$work/rust_example"
+build_bindings "$root" "$work/libleanlantern.rlib"
+rustc --edition 2021 -O -D warnings "$root/tests/rust_example.rs" --extern "leanlantern=$work/libleanlantern.rlib" -o "$work/rust_example"
 "$work/rust_example"
 echo "rust_example: every line as the paper gives it"

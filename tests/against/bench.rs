@@ -1,11 +1,11 @@
 //! Both sides on the same traces, timed.
 
 use crate::chance::Rng;
-use crate::leanlantern::Lantern;
 use crate::memory::{Memory, ARENA, LARGEST};
 use crate::original::holes_of;
 use crate::pair::carry;
 use crate::report::same;
+use leanlantern::{Block, Lantern};
 use linked_list_allocator::Heap;
 use std::alloc::Layout;
 use std::ptr::NonNull;
@@ -106,13 +106,13 @@ fn laid_original(first: &[u64], memory: &mut Memory, named: usize) -> Heap {
 pub fn laid_ours<'a>(first: &[u64], memory: &mut Memory, space: &'a mut [u8], named: usize) -> (Lantern<'a>, Vec<u64>) {
     let mut ours = Lantern::new(space);
     ours.open(memory.start as u64, named as u64).unwrap();
-    let laid: Vec<u64> = first.iter().map(|s| ours.allocate(*s, 8).unwrap().0).collect();
+    let laid: Vec<u64> = first.iter().map(|s| ours.allocate(*s, 8).unwrap().block.addr).collect();
     if first.len() > 40_000 {
         let heap = laid_original(first, memory, named);
         carry(&mut ours, &holes_of(&heap), heap.used() as u64);
     } else {
         for i in (0..laid.len()).step_by(2).rev() {
-            ours.free(laid[i], first[i], 8).unwrap();
+            ours.free(Block { addr: laid[i], size: first[i], align: 8 }).unwrap();
         }
     }
     (ours, laid)
@@ -140,13 +140,13 @@ pub fn side(who: &str, first: &[u64], turns: &[Turn], memory: &mut Memory, space
         let ours = std::cell::RefCell::new(&mut ours);
         drive(
             turns,
-            &mut |s, a| ours.borrow_mut().allocate(s, a).ok(),
-            &mut |p, s, a| {
-                ours.borrow_mut().free(p, s, a).unwrap();
+            &mut |s, a| ours.borrow_mut().allocate(s, a).ok().map(|told| (told.block.addr, told.looked_at)),
+            &mut |addr, size, align| {
+                ours.borrow_mut().free(Block { addr, size, align }).unwrap();
             },
         )
     };
-    (began.elapsed().as_nanos(), driven, ours.room(1).unwrap().1 as usize)
+    (began.elapsed().as_nanos(), driven, ours.room(1).unwrap().holes as usize)
 }
 
 fn median(mut xs: Vec<f64>) -> f64 {

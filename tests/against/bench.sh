@@ -8,6 +8,7 @@ set -euo pipefail
 here=$(cd "$(dirname "$0")" && pwd)
 root=$(cd "$here/../.." && pwd)
 . "$root/tests/library.sh"
+. "$root/tests/bindings.sh"
 . "$here/reader.sh"
 original=${1:-$root/../shared/docs/src}
 [ -f "$original/src/hole.rs" ] || { echo "bench: no src/hole.rs in $original (give the original's folder)" >&2; exit 2; }
@@ -15,8 +16,9 @@ need_library "$root"
 work=$(mktemp -d)
 trap 'rm -rf "$work"' EXIT
 build_original "$original" "$work/liblinked_list_allocator.rlib"
+build_bindings "$root" "$work/libleanlantern.rlib"
 rustc --edition 2021 -O "$here/main.rs" --extern "linked_list_allocator=$work/liblinked_list_allocator.rlib" \
-    -L "$root/target/staticlib" -l static=leanlantern -o "$work/against"
+    --extern "leanlantern=$work/libleanlantern.rlib" -o "$work/against"
 "$work/against" bench 100000
 "$work/against" stack 200000
 command -v valgrind >/dev/null 2>&1 || exit 0

@@ -10,13 +10,13 @@
 //! and holds what they leave to what would have been written.
 
 use crate::chance::{aligns_of, random_align, Rng};
-use crate::leanlantern::{Lantern, Refused};
 use crate::memory::{noise, Memory, LARGEST, RESIDUES};
 use crate::original::Way;
 use crate::pair::Pair;
 use crate::report::{same, Counts};
 use crate::runs::new_size;
 use crate::unopened::Unopened;
+use leanlantern::{Lantern, Opened, Refusal};
 
 /// Up to so many blocks are freed by calls of both sides.
 const BY_CALLS: usize = 3_000;
@@ -204,9 +204,9 @@ fn limit(memory: &Memory) {
     let mut space = vec![0u8; LARGEST + 1];
     let base = memory.start as u64;
     let answer = Lantern::new(&mut space).open(base, 64);
-    same("an arena of 16,777,217 bytes", Err(Refused { number: 1, count: 0 }), answer);
+    same("an arena of 16,777,217 bytes", Err(Refusal::BadOpening), answer);
     let answer = Lantern::new(&mut space[..LARGEST]).open(base, LARGEST as u64);
-    same("an arena of 16,777,216 bytes", Ok((base, LARGEST as u64)), answer);
+    same("an arena of 16,777,216 bytes", Ok(Opened { bottom: base, size: LARGEST as u64 }), answer);
 }
 
 pub fn dock(seed: u64, runs: u64, built: usize) -> Counts {

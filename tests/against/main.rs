@@ -16,10 +16,6 @@
 //!
 //! It stops at the first difference with exit status 1. That the original panics is one.
 
-#[path = "../../bindings/leanlantern.rs"]
-#[allow(dead_code)]
-mod leanlantern;
-
 mod bench;
 mod chance;
 mod dock;

@@ -1,11 +1,11 @@
 //! The original and ours on the same calls, and what is compared between and after them.
 
 use crate::chance::{any_align, Rng};
-use crate::leanlantern::{Lantern, Refused};
 use crate::memory::Memory;
 use crate::original::{asked, give_back, granted, holes_of, rounded};
 use crate::report::{differ, same, Counts};
 use crate::unopened::Unopened;
+use leanlantern::{Allocated, Block, Extended, Freed, Lantern, Listed, Refusal, Resized, Room};
 use linked_list_allocator::Heap;
 use std::alloc::Layout;
 use std::ptr::NonNull;
@@ -19,6 +19,10 @@ pub struct Held {
 }
 
 impl Held {
+    pub fn block(&self) -> Block {
+        Block { addr: self.addr, size: self.size, align: self.align }
+    }
+
     /// The bytes that the block takes: its size, at least 16, rounded up to 8.
     pub fn span(&self) -> usize {
         (self.size.max(16) as usize).next_multiple_of(8)
@@ -27,8 +31,9 @@ impl Held {
 
 /// What our words and heads are if the holes are these, each head with its place: its size and the next place, all ones if there is none.
 fn as_ours(ours: &Lantern, holes: &[(u64, u64)], used: u64) -> ([u64; 7], Vec<(usize, [u8; 16])>) {
-    let place = |k: usize| holes.get(k).map_or(u64::MAX, |hole| hole.0 - ours.words[0]);
-    let mut words = ours.words;
+    let mut words = ours.words();
+    let base = words[0];
+    let place = |k: usize| holes.get(k).map_or(u64::MAX, |hole| hole.0 - base);
     words[4] = place(0);
     words[6] = used;
     let head = |k: usize| {
@@ -44,10 +49,11 @@ fn as_ours(ours: &Lantern, holes: &[(u64, u64)], used: u64) -> ([u64; 7], Vec<(u
 /// time with the square of the holes to make them by frees.
 pub fn carry(ours: &mut Lantern, holes: &[(u64, u64)], used: u64) {
     let (words, heads) = as_ours(ours, holes, used);
-    ours.words = words;
+    let arena = std::mem::replace(ours, Lantern::new(&mut [])).into_arena();
     for (at, head) in heads {
-        ours.arena[at..at + 16].copy_from_slice(&head);
+        arena[at..at + 16].copy_from_slice(&head);
     }
+    *ours = Lantern::from_words(words, arena);
 }
 
 /// The original and ours, opened alike.
@@ -69,7 +75,7 @@ impl<'a> Pair<'a> {
     /// Both sides, which were just opened with as many bytes as are named.
     pub fn new(unopened: Unopened<'a>, named: usize) -> Pair<'a> {
         let Unopened { heap, memory, residue, base, ours, before } = unopened;
-        let len = ours.arena.len();
+        let len = ours.arena().len();
         // holes and the blocks between them have 16 bytes each, at least
         let most = len / 32 + 1;
         let rows = (vec![0; most], vec![0; most]);
@@ -91,11 +97,11 @@ impl<'a> Pair<'a> {
         counts.rooms += 1;
         let answer = self.ours.room(align);
         if Layout::from_size_align(16, align as usize).is_err() {
-            same("room at no alignment", Err(Refused { number: 6, count: 0 }), answer);
+            same("room at no alignment", Err(Refusal::BadLayout), answer);
             return;
         }
-        let largest = answer.map_or(0, |told| told.0);
-        same("room: holes", Ok((largest, holes)), answer);
+        let largest = answer.map_or(0, |told| told.largest);
+        same("room: holes", Ok(Room { largest, holes }), answer);
         // what must be refused is asked first: a faulty original then never gets a block back that it should not have granted
         let next = largest.max(8) + 8;
         for size in [next, next + 8] {
@@ -112,7 +118,8 @@ impl<'a> Pair<'a> {
     pub fn compare_list(&mut self) -> Vec<(u64, u64)> {
         let holes = self.original_holes();
         let (addrs, sizes) = (&mut self.rows.0, &mut self.rows.1);
-        same("list", Ok((holes.len() as u64, self.heap.free() as u64)), self.ours.list(addrs, sizes));
+        let due = Listed { holes: holes.len() as u64, free: self.heap.free() as u64 };
+        same("list", Ok(due), self.ours.list(addrs, sizes));
         for (i, hole) in holes.iter().enumerate() {
             same("hole", *hole, (addrs[i], sizes[i]));
         }
@@ -140,15 +147,15 @@ impl<'a> Pair<'a> {
         same("size", self.heap.size() as u64, self.ours.size());
         same("used", self.heap.used() as u64, self.ours.used());
         same("free bytes", self.heap.free() as u64, self.ours.free_bytes());
-        same("pending", self.heap.read_pending() as u64, self.ours.words[5]);
+        same("pending", self.heap.read_pending() as u64, self.ours.words()[5]);
     }
 
     /// Our words and the bytes of our heads are those of the original's list.
     pub fn compare_heads(&self) {
         let (words, heads) = as_ours(&self.ours, &self.original_holes(), self.heap.used() as u64);
-        same("words", words, self.ours.words);
+        same("words", words, self.ours.words());
         for (at, head) in heads {
-            same("head", head, self.ours.arena[at..at + 16].try_into().unwrap());
+            same("head", head, self.ours.arena()[at..at + 16].try_into().unwrap());
         }
     }
 
@@ -173,7 +180,7 @@ impl<'a> Pair<'a> {
         if theirs.iter().any(|x| *x != b.stamp) {
             differ("the original changed a held block", b.addr, b.size)
         }
-        if self.ours.arena[at..at + b.span()].iter().any(|x| *x != b.stamp) {
+        if self.ours.arena()[at..at + b.span()].iter().any(|x| *x != b.stamp) {
             differ("a held block changed", b.addr, b.size)
         }
         counts.bytes += b.span() as u64;
@@ -195,17 +202,17 @@ impl<'a> Pair<'a> {
             let at = (addr - self.base) as usize;
             spared[at..at + size].fill(true);
         }
-        let theirs = self.memory.bytes(self.residue, self.len);
+        let (theirs, ours) = (self.memory.bytes(self.residue, self.len), self.ours.arena_mut());
         for i in (0..self.len).filter(|i| !spared[*i]) {
             theirs[i] = rng.next() as u8;
-            self.ours.arena[i] = rng.next() as u8;
+            ours[i] = rng.next() as u8;
         }
     }
 
     fn stamp(&mut self, b: Held) {
         let at = (b.addr - self.base) as usize;
         self.memory.bytes(self.residue + at, b.span()).fill(b.stamp);
-        self.ours.arena[at..at + b.span()].fill(b.stamp);
+        self.ours.arena_mut()[at..at + b.span()].fill(b.stamp);
     }
 
     /// A call begins: the numbers that the call before it left are the same on both sides.
@@ -221,7 +228,7 @@ impl<'a> Pair<'a> {
         let layout = match Layout::from_size_align(size as usize, align as usize) {
             Ok(layout) => layout,
             Err(_) => {
-                same("no valid layout", Err(Refused { number: 6, count: 0 }), answer);
+                same("no valid layout", Err(Refusal::BadLayout), answer);
                 counts.layouts += 1;
                 return;
             }
@@ -230,8 +237,8 @@ impl<'a> Pair<'a> {
             Ok(p) => {
                 let addr = p.as_ptr() as u64;
                 let place = before.iter().position(|h| h.0 <= addr && addr < h.0 + h.1).map(|i| i as u64 + 1).unwrap_or(0);
-                same("grant", Ok((addr, place)), answer);
                 let held = Held { addr, size, align, stamp };
+                same("grant", Ok(Allocated { block: held.block(), looked_at: place }), answer);
                 self.held.push(held);
                 self.stamp(held);
                 counts.grants += 1;
@@ -241,10 +248,10 @@ impl<'a> Pair<'a> {
                 // the original does not say which: a layout that overflows when rounded is 6, else there is no room
                 let rounded = (size.max(16) as u128 + 7) / 8 * 8;
                 if rounded + align as u128 > 1 << 63 {
-                    same("layout", Err(Refused { number: 6, count: 0 }), answer);
+                    same("layout", Err(Refusal::BadLayout), answer);
                     counts.layouts += 1;
                 } else {
-                    same("no room", Err(Refused { number: 7, count: before.len() as u64 }), answer);
+                    same("no room", Err(Refusal::NoRoom { holes: before.len() as u64 }), answer);
                     counts.no_room += 1;
                 }
             }
@@ -259,7 +266,8 @@ impl<'a> Pair<'a> {
         let layout = Layout::from_size_align(b.size as usize, b.align as usize).unwrap();
         unsafe { self.heap.deallocate(NonNull::new(b.addr as *mut u8).unwrap(), layout) };
         let rounded = b.span() as u64;
-        same("free", Ok((rounded, self.heap.used() as u64)), self.ours.free(b.addr, b.size, b.align));
+        let used = self.heap.used() as u64;
+        same("free", Ok(Freed { rounded, used }), self.ours.free(b.block()));
         counts.far += self.is_far(b.addr) as u64;
     }
 
@@ -305,17 +313,20 @@ impl<'a> Pair<'a> {
         let b = self.held[i];
         let holes = self.original_holes();
         let (stretch, _) = self.stretch(i, &holes);
-        let words = self.ours.words;
+        let words = self.ours.words();
         self.before.clear();
-        self.before.extend_from_slice(self.ours.arena);
-        let answer = self.ours.resize(b.addr, b.size, b.align, new);
+        self.before.extend_from_slice(self.ours.arena());
+        let answer = self.ours.resize(b.block(), new);
         let to = match rounded(new, b.align) {
             Some(to) if to == stretch || to + 16 <= stretch => to,
             due => {
-                let (number, count) = if due.is_none() { (6, &mut counts.layouts) } else { (10, &mut counts.stretches) };
-                same("resize refused", Err(Refused { number, count: 0 }), answer);
-                same("resize refused: words", words, self.ours.words);
-                if self.before[..] != self.ours.arena[..] {
+                let (refusal, count) = match due {
+                    None => (Refusal::BadLayout, &mut counts.layouts),
+                    Some(_) => (Refusal::BadStretch, &mut counts.stretches),
+                };
+                same("resize refused", Err(refusal), answer);
+                same("resize refused: words", words, self.ours.words());
+                if self.before != self.ours.arena() {
                     differ("resize refused: a byte changed", b.addr, new)
                 }
                 *count += 1;
@@ -323,19 +334,20 @@ impl<'a> Pair<'a> {
             }
         };
         self.refit(i, to, &holes, counts);
-        same("resize", Ok((to, self.heap.used() as u64)), answer);
+        let block = Block { size: new, ..b.block() };
+        same("resize", Ok(Resized { block, rounded: to, used: self.heap.used() as u64 }), answer);
         let (at, common) = ((b.addr - self.base) as usize, b.span().min(to as usize));
         if self.memory.bytes(self.residue + at, common).iter().any(|x| *x != b.stamp) {
             differ("resize: the original changed a common byte", b.addr, new)
         }
-        if self.ours.arena[at..at + common].iter().any(|x| *x != b.stamp) {
+        if self.ours.arena()[at..at + common].iter().any(|x| *x != b.stamp) {
             differ("resize: a common byte changed", b.addr, new)
         }
         for (addr, _) in self.compare_list() {
             let at = (addr - self.base) as usize;
-            self.before[at..at + 16].copy_from_slice(&self.ours.arena[at..at + 16]);
+            self.before[at..at + 16].copy_from_slice(&self.ours.arena()[at..at + 16]);
         }
-        if self.before[..] != self.ours.arena[..] {
+        if self.before != self.ours.arena() {
             differ("resize: a byte in no head changed", b.addr, new)
         }
         self.held[i].size = new;
@@ -347,13 +359,14 @@ impl<'a> Pair<'a> {
     pub fn extend(&mut self, by: usize, counts: &mut Counts) {
         self.begin(counts);
         if self.given + by > self.len {
-            same("past the arena", Err(Refused { number: 9, count: 0 }), self.ours.extend(by as u64));
+            same("past the arena", Err(Refusal::PastArena), self.ours.extend(by as u64));
             counts.past += 1;
             return;
         }
         self.given += by;
         counts.extends += 1;
         unsafe { self.heap.extend(by) };
-        same("extend", Ok((self.heap.size() as u64, self.heap.read_pending() as u64)), self.ours.extend(by as u64));
+        let due = Extended { size: self.heap.size() as u64, pending: self.heap.read_pending() as u64 };
+        same("extend", Ok(due), self.ours.extend(by as u64));
     }
 }

@@ -4,13 +4,14 @@
 # every small opening and every alignment with the sizes at its limits, then random runs on arenas of up to 65,536 bytes, then runs on
 # arenas of up to 16,777,216 bytes with up to 524,288 holes. Most runs begin with calls on an unopened heap. A part of the runs is made
 # again on an original that was built with its debug assertions on. Then comes the same comparison with a planted fault in a copy of the
-# original, or of the bindings through which ours is asked; it must report each.
+# original, or of the Rust package through which ours is asked; it must report each.
 #
 # usage: tests/against/run.sh [--short] [--seed N] [ORIGINAL-FOLDER]     (default folder: ../shared/docs/src beside the repository)
 set -euo pipefail
 here=$(cd "$(dirname "$0")" && pwd)
 root=$(cd "$here/../.." && pwd)
 . "$root/tests/library.sh"
+. "$root/tests/bindings.sh"
 . "$here/reader.sh"
 
 units=10 named=48 calls=2000000 runs=120 built=201000 seed=1
@@ -41,10 +42,10 @@ need_library "$root"
 work=$(mktemp -d)
 trap 'rm -rf "$work"' EXIT
 
-# usage: build_driver NAME DRIVER ORIGINAL [OPTION]..
+# usage: build_driver NAME ORIGINAL BINDINGS [OPTION]..
 build_driver() {
-    rustc --edition 2021 "${@:4}" "$2" --extern "linked_list_allocator=$3/liblinked_list_allocator.rlib" \
-        -L "$root/target/staticlib" -l static=leanlantern -o "$work/$1/against"
+    rustc --edition 2021 "${@:4}" "$here/main.rs" --extern "linked_list_allocator=$2/liblinked_list_allocator.rlib" \
+        --extern "leanlantern=$3/libleanlantern.rlib" -o "$work/$1/against"
 }
 
 # usage: build_against NAME [SED-EXPRESSION [OPTION]]   (the option is for the original. The first difference of a fault comes at once, and
@@ -54,21 +55,23 @@ build_against() {
     if [ $# -eq 1 ]; then options=(-O -Ccodegen-units=1); fi
     mkdir "$work/$1"
     build_original "$original" "$work/$1/liblinked_list_allocator.rlib" "${2:-}" "${3:-}"
-    build_driver "$1" "$here/main.rs" "$work/$1" "${options[@]}"
+    build_driver "$1" "$work/$1" "$work" "${options[@]}"
 }
 
 # usage: build_faulty_ours NAME SED-EXPRESSION   (the fault is in a copy of the bindings, and the original is the true one)
 build_faulty_ours() {
-    mkdir -p "$work/$1/tests/against" "$work/$1/bindings"
-    cp "$here"/*.rs "$work/$1/tests/against/"
-    sed "$2" "$root/bindings/leanlantern.rs" >"$work/$1/bindings/leanlantern.rs"
-    if cmp -s "$root/bindings/leanlantern.rs" "$work/$1/bindings/leanlantern.rs"; then
+    mkdir "$work/$1"
+    cp -r "$root/bindings/src" "$work/$1/src"
+    sed -i "$2" "$work/$1/src/lib.rs"
+    if cmp -s "$root/bindings/src/lib.rs" "$work/$1/src/lib.rs"; then
         echo "against: the planted fault $1 does not fit the bindings" >&2
         return 1
     fi
-    build_driver "$1" "$work/$1/tests/against/main.rs" "$work/true"
+    build_bindings "$root" "$work/$1/libleanlantern.rlib" "$work/$1/src"
+    build_driver "$1" "$work/true" "$work/$1"
 }
 
+build_bindings "$root" "$work/libleanlantern.rlib"
 build_against true
 echo "tilings of up to $units units"
 "$work/true/against" tilings "$units"
@@ -122,22 +125,27 @@ must_report back_of_16_in_runs 's/if back_padding_end <= hole_end/if back_paddin
 build_against assertion_turned 's/debug_assert!(self.hole < node/debug_assert!(self.hole > node/' -Cdebug-assertions=on
 reported assertion_turned 'the original panics' tilings 7
 # an unopened heap
-must_report_ours unopened_has_no_room 'unopened: request' '/c::lantern_allocate(/a let n = if n == 3 { 7 } else { n };' tilings 7
+must_report_ours unopened_has_no_room 'unopened: request' \
+    '/raw::allocate(/a let told = if told == Err(Refusal::Unopened) { Err(Refusal::NoRoom { holes: 0 }) } else { told };' tilings 7
 # the room report, at a true alignment
 must_report_ours room_forgets_alignment 'room at [0-9]' \
-    's/\(c::lantern_room(.*\), align, /\1, if align.is_power_of_two() { 1 } else { align }, /' tilings 7
-must_report_ours room_16_less 'room at [0-9]' '/c::lantern_room(/a answer[0] = answer[0].saturating_sub(16);' tilings 7
-# a resize: its new size, refusal 10, and the bytes that stay
-must_report_ours resize_16_less 'resize' 's/\(c::lantern_resize(.*\), new, /\1, new.saturating_sub(16), /' tilings 7
-must_report_ours resize_never_refused 'resize refused' $'/c::lantern_resize(/{n;a let n = if n == 10 { 0 } else { n };\n}' tilings 7
+    's/\(raw::room(.*\), align)/\1, if align.is_power_of_two() { 1 } else { align })/' tilings 7
+must_report_ours room_16_less 'room at [0-9]' \
+    '/raw::room(/a let told = told.map(|(largest, holes)| (largest.saturating_sub(16), holes));' tilings 7
+# a resize: its new size, refusal 10, the bytes that stay, and the block that its answer names
+must_report_ours resize_16_less 'resize' 's/\(raw::resize(.*\), new_size)/\1, new_size.saturating_sub(16))/' tilings 7
+must_report_ours resize_never_refused 'resize refused' \
+    '/raw::resize(/a let told = if told == Err(Refusal::BadStretch) { Ok((0, 0)) } else { told };' tilings 7
 must_report_ours resize_changes_a_byte 'resize: a common byte' \
-    $'/c::lantern_resize(/{n;a if n == 0 { self.arena[(addr - self.words[0]) as usize] ^= 1; }\n}' tilings 7
+    '/raw::resize(/a if told.is_ok() { self.arena[(block.addr - self.words[0]) as usize] ^= 1; }' tilings 7
+must_report_ours resize_names_the_old_block 'resize' 's/Block { size: new_size, \.\.block }/block/' tilings 7
 # a place of three bytes, which only the larger arenas have: a grant's and the first hole's lose the third; in the row of addresses it is
 # lost from the 65,537th hole on
 must_report_ours grant_of_two_bytes 'grant' \
-    $'/c::lantern_allocate(/a if n == 0 { answer[0] = self.words[0] + ((answer[0] - self.words[0]) & 0xffff); }' dock "$seed" 0 1
+    '/raw::allocate(/a let told = told.map(|(addr, n)| (self.words[0] + ((addr - self.words[0]) & 0xffff), n));' dock "$seed" 0 1
 must_report_ours first_of_two_bytes 'grant' \
-    $'/c::lantern_allocate(/a if n == 0 && self.words[4] != !0 { self.words[4] &= 0xffff; }' dock "$seed" 0 1
+    '/raw::allocate(/a if told.is_ok() && self.words[4] != !0 { self.words[4] &= 0xffff; }' dock "$seed" 0 1
 must_report_ours row_of_two_bytes 'hole' \
-    '/pub fn list/,/^    }/s/Self::told(n, answer)/for a in addrs.iter_mut().take(answer[0] as usize).skip(65_536) { *a -= (*a - self.words[0]) \& 0xff_0000; } &/' dock "$seed" 1 1
+    '/raw::list(/a for a in addrs.iter_mut().take(told.map_or(0, |t| t.0) as usize).skip(65_536) { *a -= (*a - self.words[0]) & 0xff << 16; }' \
+    dock "$seed" 1 1
 echo "against: no difference; every planted fault reported"

@@ -7,6 +7,7 @@ set -euo pipefail
 here=$(cd "$(dirname "$0")" && pwd)
 root=$(cd "$here/../.." && pwd)
 . "$root/tests/library.sh"
+. "$root/tests/bindings.sh"
 . "$here/reader.sh"
 write=''
 if [ "${1:-}" = --write ]; then write=1; shift; fi
@@ -16,8 +17,9 @@ need_library "$root"
 work=$(mktemp -d)
 trap 'rm -rf "$work"' EXIT
 build_original "$original" "$work/liblinked_list_allocator.rlib"
+build_bindings "$root" "$work/libleanlantern.rlib"
 rustc --edition 2021 -O "$here/main.rs" --extern "linked_list_allocator=$work/liblinked_list_allocator.rlib" \
-    -L "$root/target/staticlib" -l static=leanlantern -o "$work/against"
+    --extern "leanlantern=$work/libleanlantern.rlib" -o "$work/against"
 "$work/against" sample 2026 1500 >"$work/list"
 lines=$(grep -c '^=' "$work/list")
 if [ -n "$write" ]; then

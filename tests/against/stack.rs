@@ -1,10 +1,10 @@
 //! How deep a call of ours goes into the stack. Each call is made on a stack of its own, which is painted before; the lowest byte that
-//! was painted over afterwards tells the depth. The depth counts the return address and the frame of the bindings. For x86-64.
+//! was painted over afterwards tells the depth. The depth counts the return address and the frame of the Rust package. For x86-64.
 
 use crate::bench::{laid_ours, trace};
-use crate::leanlantern::Lantern;
 use crate::memory::{Memory, LARGEST};
 use crate::report::same;
+use leanlantern::{Block, Lantern};
 use std::arch::asm;
 
 const PAINT: u8 = 0xa5;
@@ -60,21 +60,24 @@ fn depths(stack: &mut Stack, ours: &mut Lantern, pins: &[u64]) -> Vec<(&'static 
     for (size, align) in [(8, 1), (24, 4096), (60, 8), (1 << 40, 8), (8, 3)] {
         let mut answer = None;
         deeper("allocate", stack.depth(|| answer = Some(ours.allocate(size, align))));
-        if let Some(Ok((at, _))) = answer {
-            deeper("free", stack.depth(|| answer = Some(ours.free(at, size, align))));
-            same("stack: free", true, answer.unwrap().is_ok());
+        if let Some(Ok(told)) = answer {
+            let mut freed = None;
+            deeper("free", stack.depth(|| freed = Some(ours.free(told.block))));
+            same("stack: free", true, freed.unwrap().is_ok());
         }
     }
     // pins have 16 bytes and a hole behind them: grown, shrunk, refused, and freed, which joins two holes
     for k in [0, pins.len() / 2, pins.len() - 1] {
+        let pin = Block { addr: pins[k], size: 16, align: 8 };
         let mut answer = None;
         for (old, new, granted) in [(16, 24, true), (24, 16, true), (16, 1 << 40, false), (16, 0, true)] {
-            deeper("resize", stack.depth(|| answer = Some(ours.resize(pins[k], old, 8, new))));
+            deeper("resize", stack.depth(|| answer = Some(ours.resize(Block { size: old, ..pin }, new))));
             same("stack: resize", granted, answer.unwrap().is_ok());
         }
-        deeper("free", stack.depth(|| answer = Some(ours.free(pins[k], 16, 8))));
+        let mut answer = None;
+        deeper("free", stack.depth(|| answer = Some(ours.free(pin))));
         same("stack: free", true, answer.unwrap().is_ok());
-        deeper("free", stack.depth(|| answer = Some(ours.free(pins[k], 16, 8))));
+        deeper("free", stack.depth(|| answer = Some(ours.free(pin))));
         same("stack: freed twice", false, answer.unwrap().is_ok());
     }
     for by in [7, 100, 1 << 40] {
@@ -106,10 +109,10 @@ pub fn stack(holes: usize) {
         let (first, _) = trace("mixed", 0, holes);
         let (mut ours, laid) = laid_ours(&first, &mut memory, &mut space, LARGEST - 4096);
         let pins: Vec<u64> = laid.into_iter().skip(1).step_by(2).collect();
-        let had = ours.room(1).unwrap().1 as usize;
+        let had = ours.room(1).unwrap().holes as usize;
         told.push((had, depths(&mut stack, &mut ours, &pins)));
     }
-    println!("bytes of stack for one call, the bindings' frame and the return address among them; an arena of {LARGEST} bytes");
+    println!("bytes of stack for one call, the Rust package's frame and the return address among them; an arena of {LARGEST} bytes");
     println!("call      {:>12}  {:>17}", format!("{} holes", told[0].0), format!("{} holes", told[1].0));
     for ((name, few), (_, many)) in told[0].1.iter().zip(&told[1].1) {
         println!("{name:8}  {few:12}  {many:17}");
