@@ -1,12 +1,8 @@
 #!/usr/bin/env bash
 # The Rust package by cargo: its tests and its documentation, then the program that README.md shows, which stands outside the repository
 # and depends on the package by path, and what the build says where there is no static library.
-set -euo pipefail
-root=$(cd "$(dirname "$0")/.." && pwd)
-. "$root/tests/library.sh"
+. "$(dirname "$0")/preamble.sh"
 need_library "$root"
-work=$(mktemp -d)
-trap 'rm -rf "$work"' EXIT
 unset LEANLANTERN_LIB_DIR
 export CARGO_TARGET_DIR=$work/target RUSTFLAGS='-D warnings' RUSTDOCFLAGS='-D warnings'
 package=$root/bindings
@@ -30,7 +26,7 @@ fi
 
 # the same with the library elsewhere, and with no library
 mkdir "$work/elsewhere" "$work/nothing"
-cp "$root/target/staticlib/libleanlantern.a" "$work/elsewhere/"
+cp "$library" "$work/elsewhere/"
 (cd "$work/program" && LEANLANTERN_LIB_DIR=$work/elsewhere cargo run --quiet --offline >/dev/null)
 if (cd "$work/program" && LEANLANTERN_LIB_DIR=$work/nothing cargo build --quiet --offline) >"$work/said" 2>&1; then
     echo "cargo: it was built without the static library" >&2

@@ -4,17 +4,13 @@
 # each call where valgrind is at hand.
 #
 # usage: tests/against/bench.sh [ORIGINAL-FOLDER]     (default folder: ../shared/docs/src beside the repository)
-set -euo pipefail
-here=$(cd "$(dirname "$0")" && pwd)
-root=$(cd "$here/../.." && pwd)
-. "$root/tests/library.sh"
+. "$(dirname "$0")/../preamble.sh"
+here=$root/tests/against
 . "$root/tests/bindings.sh"
 . "$here/reader.sh"
 original=${1:-$root/../shared/docs/src}
 [ -f "$original/src/hole.rs" ] || { echo "bench: no src/hole.rs in $original (give the original's folder)" >&2; exit 2; }
 need_library "$root"
-work=$(mktemp -d)
-trap 'rm -rf "$work"' EXIT
 build_original "$original" "$work/liblinked_list_allocator.rlib"
 build_bindings "$root" "$work/libleanlantern.rlib"
 rustc --edition 2021 -O "$here/main.rs" --extern "linked_list_allocator=$work/liblinked_list_allocator.rlib" \

@@ -7,10 +7,8 @@
 # original, or of the Rust package through which ours is asked; it must report each.
 #
 # usage: tests/against/run.sh [--short] [--seed N] [ORIGINAL-FOLDER]     (default folder: ../shared/docs/src beside the repository)
-set -euo pipefail
-here=$(cd "$(dirname "$0")" && pwd)
-root=$(cd "$here/../.." && pwd)
-. "$root/tests/library.sh"
+. "$(dirname "$0")/../preamble.sh"
+here=$root/tests/against
 . "$root/tests/bindings.sh"
 . "$here/reader.sh"
 
@@ -39,8 +37,6 @@ original=${original:-$root/../shared/docs/src}
 [ -f "$original/src/hole.rs" ] || { echo "against: no src/hole.rs in $original (give the original's folder)" >&2; exit 2; }
 
 need_library "$root"
-work=$(mktemp -d)
-trap 'rm -rf "$work"' EXIT
 
 # usage: build_driver NAME ORIGINAL BINDINGS [OPTION]..
 build_driver() {

@@ -3,10 +3,8 @@
 # with --write it stores it, and the count that the program must print.
 #
 # usage: tests/against/sample.sh [--write] [ORIGINAL-FOLDER]     (default folder: ../shared/docs/src beside the repository)
-set -euo pipefail
-here=$(cd "$(dirname "$0")" && pwd)
-root=$(cd "$here/../.." && pwd)
-. "$root/tests/library.sh"
+. "$(dirname "$0")/../preamble.sh"
+here=$root/tests/against
 . "$root/tests/bindings.sh"
 . "$here/reader.sh"
 write=''
@@ -14,8 +12,6 @@ if [ "${1:-}" = --write ]; then write=1; shift; fi
 original=${1:-$root/../shared/docs/src}
 [ -f "$original/src/hole.rs" ] || { echo "sample: no src/hole.rs in $original (give the original's folder)" >&2; exit 2; }
 need_library "$root"
-work=$(mktemp -d)
-trap 'rm -rf "$work"' EXIT
 build_original "$original" "$work/liblinked_list_allocator.rlib"
 build_bindings "$root" "$work/libleanlantern.rlib"
 rustc --edition 2021 -O "$here/main.rs" --extern "linked_list_allocator=$work/liblinked_list_allocator.rlib" \
