@@ -14,6 +14,7 @@ use talk::hear;
 ghost use mathlib.Core.Path.{_≡_};
 ghost use mathlib.Core.Bool.{true};
 ghost use Prim.Native.Nat.{_≤_};
+ghost use lib.ListN.{take};
 ghost use Rattle.talk.specs.Hearing.{answersRoom, come, heard, taken};
 ghost use Rattle.wire.specs.Bounds.{Settled};
 
@@ -33,12 +34,20 @@ struct Turn {
     taken: bool,
 }
 
-// Writes the `n` bytes of answers that wait, and says whether the output took them.
-fn flush(n: usize, waiting: &[u8; WAITING]) -> bool
-    requires { ⌜ n ≤ answersRoom ⌝ }
+// Hands answers to the output, and says whether it took them. They are all that wait, no more and no less.
+fn write_out(t: Talk, waiting: &[u8], answers: &[u8]) -> bool
+    requires { ⌜ now answers ≡ take (t .waits) (now waiting) ⌝ }
 {
+    io::write_all(STDOUT_FILENO, answers)
+}
+
+// Writes what waits.
+fn flush(t: Talk, waiting: &[u8; WAITING]) -> bool
+    requires { ⌜ t .waits ≤ answersRoom ⌝ }
+{
+    let n = t.waits;
     let all: &[u8] = waiting;
-    io::write_all(STDOUT_FILENO, &all[0..n])
+    write_out(t, all, &all[0..n])
 }
 
 // Hears bytes to their end, and writes the answers whenever one more might not find room. It stops
@@ -61,7 +70,7 @@ fn answer_all(
         at = h.to;
         let talk = h.talk;
         t = Talk { waits: 0, ..talk };
-        if !flush(talk.waits, waiting) {
+        if !flush(talk, waiting) {
             return Answered {
                 talk: t,
                 taken: false,
@@ -147,6 +156,6 @@ fn main() {
     // The last line may lack its LF.
     if t.kept > 0 && taken {
         let last = answer(t, &mut arena, &line, &mut reply, &mut waiting);
-        flush(last.waits, &waiting);
+        flush(last, &waiting);
     }
 }
