@@ -1,6 +1,8 @@
 // Rounding to an alignment: the leaves of the original's lib.rs. Each function asks for a power of
 // two, where the original panics: callers test the alignment first, and refuse with 6. An alignment
 // of 0, which the original passes through, is no power of two either.
+#![tactic(auto)]
+
 ghost use Rattle.std.specs.Prelude.{◌≡◌, ◌+◌, ◌%◌, ◌^◌, ◌≤◌};
 ghost use Rattle.rules.specs.Round.{Power, Below, Above};
 ghost use Rattle.rules.specs.Fixed.{width};

@@ -1,5 +1,7 @@
 // The call allocate, on a heap by value and a lent arena: its tests, its decision, and the decision
 // written.
+#![tactic(auto)]
+
 mod first_fit;
 mod split;
 

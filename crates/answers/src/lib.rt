@@ -1,4 +1,6 @@
 // Answers in the paper's numbers, for whoever tells them: on the wire, or to C.
+#![tactic(auto)]
+
 ghost use Rattle.std.specs.Prelude.{◌≡◌};
 ghost use Rattle.rules.specs.Answers.{refusal_numbers, answer_numbers};
 ghost use Rattle.answers.specs.Numbered.{told};
@@ -6,7 +8,7 @@ ghost use Rattle.answers.specs.Numbered.{told};
 use rules::{Answer, Refusal};
 
 // A number and two values, as an answer has them.
-#[derive(Drop)]
+#[derive(Clone, Copy)]
 pub struct Told(pub u64, pub u64, pub u64);
 
 // The paper's number of a refusal, with zeros, except 7, which has its count.

@@ -5,6 +5,8 @@
 // Each export is the function that it wraps, on the heap that the words say. None has a `requires`: any
 // words and any bytes may be lent. What C has to keep is what a reference means: arrays of these lengths
 // that do not overlap.
+#![tactic(auto)]
+
 pub mod calls;
 pub mod readers;
 pub mod report;

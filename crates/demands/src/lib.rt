@@ -3,3 +3,5 @@
 // the statements leave nothing open and no room for a fraud; the table K1 to K13; that what the port
 // leaves out is harmless; and that every premise can be met. specs/Demands.antt gathers them all, and
 // proofs/Demands.antt has its one value.
+#![tactic(auto)]
+

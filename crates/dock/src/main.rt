@@ -1,6 +1,8 @@
 // The dock box: arenas at the limit, one byte below it and one above. A line has the arena's length, then
 // what open answers on it, or whether an opened heap of that length keeps the rules on its numbers (0,
 // or 5). Neither looks at a byte, so no memory is lent here; tests/dock.c makes the calls on 16 MiB.
+#![tactic(auto)]
+
 use answers::answer_numbers;
 use numbers::Checked;
 use rules::{ARENA_LIMIT, Addr, Answer, Heap, Place};

@@ -1,5 +1,7 @@
 // The call extend, on a heap by value and a lent arena: its tests, its decision, and the decision
 // written.
+#![tactic(auto)]
+
 mod growth;
 
 ghost use Rattle.rules.specs.Calls as Calls;

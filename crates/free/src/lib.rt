@@ -1,4 +1,6 @@
 // The call free, on a heap by value and a lent arena: its tests, its decision, and the decision written.
+#![tactic(auto)]
+
 mod deallocation;
 mod span;
 

@@ -5,6 +5,8 @@
 // entire arena that it leaves: those of `after`, the paper as a definition (crate rules). This crate
 // has no code of its own: it names the calls, each of which stands in its own crate. The five readers
 // are in crate numbers.
+#![tactic(auto)]
+
 pub use allocate::allocate;
 pub use extend::extend;
 pub use free::free;

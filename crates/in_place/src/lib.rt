@@ -4,6 +4,8 @@
 // is copied out, handed to the call, and the heap that the call hands back is stored there. So each
 // ensures what that call ensures, of the heap as it was when the reference was lent and as it is at the
 // end.
+#![tactic(auto)]
+
 ghost use Rattle.std.specs.Prelude.{◌≡◌};
 ghost use Rattle.rules.specs.Calls as Calls;
 ghost use Rattle.rules.specs.Outcome.{after};

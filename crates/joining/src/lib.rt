@@ -1,6 +1,8 @@
 // The list of holes, relinked: a hole before leads to a new place, a free span becomes a hole and joins
 // every hole that it touches, and what remains behind a block that is resized becomes one, or nothing does.
 // Nothing is written here: a call decides which heads are to be.
+#![tactic(auto)]
+
 ghost use Rattle.std.specs.Prelude.{◌≡◌, ◌+◌, ◌≤◌};
 ghost use Rattle.rules.specs.Sound.{holes};
 ghost use Rattle.rules.specs.Free.{freed};
@@ -15,7 +17,7 @@ use rules::{Addr, Head, Heap, Hole, NONE, Place, Write, Writes};
 use walk::Cursor;
 
 // What becomes of the list: the place of its first hole, and the heads to be written.
-#[derive(Drop)]
+#[derive(Clone, Copy)]
 pub struct Relinked {
     pub first: Place,
     pub heads: Writes,

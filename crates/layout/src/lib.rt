@@ -1,5 +1,7 @@
 // The rounded size of a request, or refusal 6. No function here has a `requires`: any two numbers
 // may be asked for.
+#![tactic(auto)]
+
 ghost use Rattle.std.specs.Prelude.{◌≡◌, max};
 ghost use Rattle.rules.specs.Fixed.{min_size};
 ghost use Rattle.rules.specs.Refusals.{layout_of};

@@ -1,6 +1,8 @@
 // Runs the layout leaf at the limits of its numbers and prints what it answers: a line for each size
 // and alignment, `size align rounded` or `size align -`. tests/limits.rs makes the same lines with
 // the original and Rust's own `Layout`; the stored output is what it printed.
+#![tactic(auto)]
+
 use layout::align_layout;
 use rules::Layout;
 

@@ -1,5 +1,7 @@
 // Lines on the wire: frames read, answers printed, and one function that takes a line and the box and
 // gives the answer's bytes. It has no `requires`.
+#![tactic(auto)]
+
 mod answer;
 mod printing;
 mod reading;
@@ -21,7 +23,7 @@ const MOST: usize = (ARENA + 16) / 32;
 pub const LONGEST: usize = LINE * (MOST + 1);
 
 // What a line comes to: the heap, and how many bytes of the answer are printed.
-#[derive(Drop)]
+#[derive(Clone, Copy)]
 pub struct Replied {
     pub heap: Heap,
     pub len: usize,

@@ -4,7 +4,7 @@ ghost use Rattle.std.specs.Prelude.{◌≡◌, true, ◌≤◌, ◌<◌};
 ghost use Rattle.lines.specs.Frames.{digit, digits, number_at, most_numbers, number_of, forms, form_of, framed, frame_of};
 
 // A frame: a call with its numbers, or a line that is none.
-#[derive(Drop)]
+#[derive(Clone, Copy)]
 pub enum Frame {
     // 01: base, named size.
     Open {

@@ -1,5 +1,7 @@
 // Opening: an unopened heap, and the call that makes a heap of an arena: its tests, its decision, and
 // the decision written. No public function has a `requires`.
+#![tactic(auto)]
+
 ghost use Rattle.std.specs.Prelude.{◌≡◌, false, List, ℕ, length};
 ghost use Rattle.rules.specs.Tests.{any};
 ghost use Rattle.rules.specs.Kinds.{none};

@@ -1,6 +1,8 @@
 // Replays stored answers of the original: calls as wire frames on standard input, each followed by
 // the lines that the original gave, marked by '='. It runs the calls and says how many lines agree.
 // How the list was made: tests/against/sample.sh.
+#![tactic(auto)]
+
 ghost use Rattle.std.specs.Prelude.{◌+◌, ◌≤◌, length};
 ghost use Rattle.lines.specs.Wire.{longest};
 
@@ -16,7 +18,7 @@ const LF: u8 = 10;
 const MARK: u8 = 61;
 
 // The box, what is left to compare of its last answer, and the count.
-#[derive(Drop)]
+#[derive(Clone, Copy)]
 struct Tally {
     heap: Heap,
     at: usize,

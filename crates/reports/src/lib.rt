@@ -1,4 +1,6 @@
 // The two reports on the holes. They change neither heap nor arena.
+#![tactic(auto)]
+
 mod filling;
 mod gathering;
 
@@ -14,7 +16,7 @@ use request::Request;
 use rules::{Answer, Heap, MIN_SIZE, Refusal};
 
 // What a report gathers of the holes: their number and the largest grant, or that a rule is broken.
-#[derive(Drop)]
+#[derive(Clone, Copy)]
 pub enum Survey {
     Of { count: u64, largest: u64 },
     Bad,

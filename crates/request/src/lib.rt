@@ -1,4 +1,6 @@
 // What a request is tested for before its own tests: 3, 4, 5 and 6. Allocate and free begin so.
+#![tactic(auto)]
+
 ghost use Rattle.std.specs.Prelude.{◌≡◌, cond};
 ghost use Rattle.rules.specs.Sound.{sound_holes, holes};
 ghost use Rattle.rules.specs.Inner.{Lent, Bytes};
@@ -11,7 +13,7 @@ use rules::{Heap, Layout, Refusal};
 use walk::is_sound;
 
 // The rounded size that is asked for, or the refusal.
-#[derive(Drop)]
+#[derive(Clone, Copy)]
 pub enum Request {
     Of(u64),
     No(Refusal),

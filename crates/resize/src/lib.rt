@@ -1,5 +1,7 @@
 // The call resize, on a heap by value and a lent arena: its tests, its decision, and the decision
 // written.
+#![tactic(auto)]
+
 mod fitting;
 
 ghost use Rattle.rules.specs.Calls as Calls;

@@ -1,5 +1,7 @@
 // The kinds of value that document 01 speaks of. Their meaning is in specs/: the paper as
 // definitions, which every contract of the crates above cites.
+#![tactic(auto)]
+
 
 // The numbers that the paper fixes, as specs/Fixed.antt has them: the most bytes of an arena; 2^63,
 // what base + arena length is at most, and a rounded size with its alignment; the bytes of a head,
@@ -16,29 +18,29 @@ pub const GRAIN: u64 = 8;
 pub const NONE: u64 = 0xffff_ffff_ffff_ffff;
 
 // An address. It and a place are two kinds of number, converted only through the base.
-#[derive(Drop)]
+#[derive(Clone, Copy)]
 pub struct Addr(pub u64);
 
 // A place in the arena, counted from its start; all ones for none.
-#[derive(Drop)]
+#[derive(Clone, Copy)]
 pub struct Place(pub u64);
 
 // The first 16 bytes of a hole: its size, and the place of the next head.
-#[derive(Drop)]
+#[derive(Clone, Copy)]
 pub struct Head {
     pub size: u64,
     pub next: Place,
 }
 
 // A free stretch, known by address and size.
-#[derive(Drop)]
+#[derive(Clone, Copy)]
 pub struct Hole {
     pub addr: Addr,
     pub size: u64,
 }
 
 // What a heap remembers, in the paper's order. Unopened: all zeros.
-#[derive(Drop)]
+#[derive(Clone, Copy)]
 pub struct Heap {
     pub base: Addr,
     pub len: u64,
@@ -50,7 +52,7 @@ pub struct Heap {
 }
 
 // Why the box says no: the paper's refusals 1 to 9 and, for resize, 10, in order.
-#[derive(Drop)]
+#[derive(Clone, Copy)]
 pub enum Refusal {
     // 1: no heap can be made of what was lent.
     BadOpening,
@@ -75,7 +77,7 @@ pub enum Refusal {
 }
 
 // What a call answers: two values of its own, or a refusal.
-#[derive(Drop)]
+#[derive(Clone, Copy)]
 pub enum Answer {
     // Open: where the heap begins, and how many bytes it deals out.
     Opened { bottom: Addr, size: u64 },
@@ -97,28 +99,28 @@ pub enum Answer {
 }
 
 // A rounded size, or refusal 6.
-#[derive(Drop)]
+#[derive(Clone, Copy)]
 pub enum Layout {
     Rounded(u64),
     Bad,
 }
 
 // What a call that may change the heap gives back: the heap and the answer.
-#[derive(Drop)]
+#[derive(Clone, Copy)]
 pub struct Done {
     pub heap: Heap,
     pub answer: Answer,
 }
 
 // A head to be written, and its place; where that is none, nothing is written.
-#[derive(Drop)]
+#[derive(Clone, Copy)]
 pub struct Write {
     pub at: Place,
     pub head: Head,
 }
 
 // The heads that change, at most two: first the one is written, then the other.
-#[derive(Drop)]
+#[derive(Clone, Copy)]
 pub struct Writes {
     pub one: Write,
     pub two: Write,
@@ -126,7 +128,7 @@ pub struct Writes {
 
 // What a call decides on an arena as it stands: the heap and the answer that it gives back, and the
 // heads to be written.
-#[derive(Drop)]
+#[derive(Clone, Copy)]
 pub struct Decided {
     pub heap: Heap,
     pub answer: Answer,

@@ -1,5 +1,7 @@
 // A talk over the wire: bytes that come in any pieces are cut into lines, each line is answered, and the
 // answers wait behind each other until they are written. Reading and writing themselves are the caller's.
+#![tactic(auto)]
+
 ghost use Rattle.std.specs.Prelude.{◌≡◌, ◌++◌, ◌+◌, ◌≤◌, length, take};
 ghost use Rattle.lines.specs.Wire.{longest};
 ghost use Rattle.talk.specs.Hearing.{line_room, answers_room, come, answered, kept_with, Bounded, Hears};
@@ -17,7 +19,7 @@ pub const KEPT: usize = FRAME + 1;
 pub const WAITING: usize = 2 * LONGEST;
 
 // The heap, how many bytes are kept of the line that has not ended, and how many bytes of answers wait.
-#[derive(Drop)]
+#[derive(Clone, Copy)]
 pub struct Talk {
     pub heap: Heap,
     pub kept: usize,
@@ -25,7 +27,7 @@ pub struct Talk {
 }
 
 // A talk, and up to where it has heard.
-#[derive(Drop)]
+#[derive(Clone, Copy)]
 pub struct Heard {
     pub talk: Talk,
     pub to: usize,

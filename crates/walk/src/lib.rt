@@ -1,6 +1,8 @@
 // The walk over the heads of an arena. A step tests all that document 01 asks of one head, and every
 // walk above it goes step by step: to the hole that an allocation uses, to the neighbours of a span, or
 // to the end. Each ends at the first head that breaks a rule. Nothing here writes.
+#![tactic(auto)]
+
 mod one_step;
 mod to_end;
 mod to_fit;
@@ -13,7 +15,7 @@ pub use to_fit::{candidate, first_fit};
 pub use to_span::neighbours;
 
 // What a step finds: a hole and the place of the next head, no further hole, or a broken rule.
-#[derive(Drop)]
+#[derive(Clone, Copy)]
 pub enum Step {
     At(Hole, Place),
     End,
@@ -21,7 +23,7 @@ pub enum Step {
 }
 
 // Two places: of a hole, and of the hole before it, none where it is the first.
-#[derive(Drop)]
+#[derive(Clone, Copy)]
 pub struct Cursor {
     pub prev: Place,
     pub hole: Place,
@@ -29,7 +31,7 @@ pub struct Cursor {
 
 // The hole that an allocation uses: where it lies, the hole itself, the place of the next one, how
 // many holes were looked at, and the sum of their sizes.
-#[derive(Drop)]
+#[derive(Clone, Copy)]
 pub struct Fit {
     pub cursor: Cursor,
     pub hole: Hole,
@@ -39,7 +41,7 @@ pub struct Fit {
 }
 
 // What the search for a hole finds: the first that suits, that none does, or a broken rule.
-#[derive(Drop)]
+#[derive(Clone, Copy)]
 pub enum Search {
     At(Fit),
     Nowhere { count: u64, total: u64 },
@@ -48,7 +50,7 @@ pub enum Search {
 
 // Where a span lies among the holes: behind `prev` and before `hole`, where these are; the floor
 // behind the one and the sum of the sizes up to it.
-#[derive(Drop)]
+#[derive(Clone, Copy)]
 pub struct Near {
     pub cursor: Cursor,
     pub floor: Addr,
@@ -56,14 +58,14 @@ pub struct Near {
 }
 
 // What the search for a span's neighbours finds.
-#[derive(Drop)]
+#[derive(Clone, Copy)]
 pub enum Spot {
     Between(Near),
     Bad,
 }
 
 // What a walk to the end finds: the sum of the sizes, or a broken rule.
-#[derive(Drop)]
+#[derive(Clone, Copy)]
 pub enum Walked {
     Good { total: u64 },
     Bad,

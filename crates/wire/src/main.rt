@@ -2,6 +2,8 @@
 // zeroed arena of 65,536 bytes. What a line means is `lines::answer_line`'s promise, and how bytes are
 // cut into lines and answers queued is `talk::hear`'s. Here bytes are read, and what waits is written,
 // in memory that does not grow with the input.
+#![tactic(auto)]
+
 ghost use Rattle.std.specs.Prelude.{◌≡◌, true, ◌≤◌, take};
 ghost use Rattle.talk.specs.Hearing.{answers_room, come, heard, taken};
 ghost use Rattle.wire.specs.Bounds.{Settled};
@@ -14,14 +16,14 @@ use talk::{KEPT, Talk, WAITING, answer, hear};
 const INPUT: usize = 65_536;
 
 // The talk, and whether the output took every answer that it was given.
-#[derive(Drop)]
+#[derive(Clone, Copy)]
 struct Answered {
     talk: Talk,
     taken: bool,
 }
 
 // The talk, and whether it goes on: the input may hold more, and the output took every answer.
-#[derive(Drop)]
+#[derive(Clone, Copy)]
 struct Turn {
     talk: Talk,
     more: bool,
