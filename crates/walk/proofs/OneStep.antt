@@ -7,8 +7,6 @@ use Prim.Native.Nat.{ℕ, ◌+◌, ◌%◌, ◌≤◌}
 use native.Mathlib.Omega.{arith}
 use lib.Bits.{bit_or, bit_and, or_mod, or_add_and, and_le_l, and_le_r}
 use borrow.Author.Tests.{eq-eqb, ne_eqb}
-use denote.Enum.Declared.{tag_of}
-use types.Run.{OneOf}
 use Rattle.rules.specs.Fixed.{grain}
 use Rattle.rules.specs.Tests.{all}
 use Rattle.rules.specs.Kinds.{addr_of, none, is_none}
@@ -24,7 +22,6 @@ use Rattle.rules.proofs.Walk.{Keeps, rules_keep, keep_rules}
 use Rattle.walk.specs.declared.Step.{Step}
 use Rattle.walk.specs.declared.Step.TheVariants as step
 use Rattle.walk.specs.Walk.{last_of, head_of, step_of, is_end}
-use Rattle.walk.specs.contracts.Step as Steps
 
 -- ---- two multiples of 8, tested as one by their `|`
 
@@ -76,10 +73,13 @@ is_end_lem (step.At k q) e = apart e refl
 is_end_lem step.End e = refl
 is_end_lem step.Bad e = apart e refl
 
-pub is_bad : (s : Step) → OneOf (1 ∷ 2 ∷ []) (tag_of Steps.the_type s) → is_end s ≡ false → s ≡ step.Bad
+-- a step that found no hole
+abbrev pub NotAt : Step → Type 0
+NotAt s = (k : Hole) (q : Place) → s ≡ step.At k q → ⊥
+
+pub is_bad : (s : Step) → NotAt s → is_end s ≡ false → s ≡ step.Bad
 unfolding is_end
-is_bad (step.At k q) (inl o) e = absurd (omega arith)
-is_bad (step.At k q) (inr o) e = absurd (omega arith)
+is_bad (step.At k q) o e = absurd (o k q refl)
 is_bad step.End o e = apart refl e
 is_bad step.Bad o e = refl
 

@@ -5,8 +5,6 @@ use mathlib.Core.Bool.{true, false, Bool, ◌&&◌}
 use mathlib.Core.List.{List, [], ◌∷◌, ◌++◌, append-nil}
 use Prim.Native.Nat.{ℕ, ◌+◌, ◌≤◌, zero, suc, ◌-◌, ◌<◌}
 use native.Mathlib.Omega.{arith}
-use denote.Enum.Declared.{tag_of}
-use types.Run.{OneOf}
 use Rattle.rules.specs.Fixed.{min_size}
 use Rattle.rules.specs.Holes as Holes
 use Rattle.rules.specs.Holes.{holes_from, head_at, first_of}
@@ -19,7 +17,6 @@ use Rattle.walk.specs.declared.Step.{Step}
 use Rattle.walk.specs.declared.Step.TheVariants as step
 use Rattle.walk.specs.declared.Walked.TheVariants as whole
 use Rattle.walk.specs.Walk.{Enough, step_of, is_end, never, walked_by, walked_of, start_of, Stop, stopped, ended, broken, walked, last_floor, adds_up}
-use Rattle.walk.specs.contracts.Step as Steps
 use Rattle.walk.proofs.Passed.{total_more, Spaced}
 use Rattle.walk.proofs.Turn.{Walk, Gone, begins, goes_on, ends_here, breaks, start}
 use lib.ListN.{length}
@@ -33,6 +30,7 @@ use Rattle.rules.proofs.Walk.{walks, sound_walks}
 use Rattle.rules.proofs.Totals.{total_append}
 use Rattle.walk.specs.declared.Walked.{Walked}
 use Rattle.walk.proofs.Passed.{Says, said, said_end, said_bad}
+use Rattle.walk.proofs.OneStep.{NotAt}
 
 -- from a place and a floor on, with the sum of the sizes before
 abbrev pub onward : Heap → List ℕ → Place → Addr → Walk
@@ -63,7 +61,7 @@ module _ {h : Heap} {m : List ℕ} {from : Place} {low : Addr} {before : ℕ} {a
       unfolding walked_of walked_by
       walk_ended e = rw (ends_here s.gone is e n en, s.summed)
 
-      pub walk_broken : OneOf (1 ∷ 2 ∷ []) (tag_of Steps.the_type st) → is_end st ≡ false
+      pub walk_broken : NotAt st → is_end st ≡ false
           → whole.Bad ≡ walked_of h low before (holes_from n h.base m from)
       unfolding walked_of walked_by
       walk_broken o e = rw (breaks s.gone is o e n en)

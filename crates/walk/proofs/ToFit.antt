@@ -20,8 +20,6 @@ use Rattle.rules.proofs.Powers.{power_pos}
 use Rattle.rules.proofs.Used.{candidate_low}
 use mathlib.Core.List.{List, [], ◌∷◌, ◌++◌, append-nil, append_assoc}
 use lib.ListN.{length}
-use denote.Enum.Declared.{tag_of}
-use types.Run.{OneOf}
 use Rattle.rules.specs.Holes as Holes
 use Rattle.rules.specs.Allocate as Allocate
 use Rattle.rules.specs.declared.Place.{Place}
@@ -35,12 +33,12 @@ use Rattle.walk.specs.declared.Step.TheVariants as step
 use Rattle.walk.specs.declared.Search.{Search}
 use Rattle.walk.specs.declared.Search.TheVariants as search
 use Rattle.walk.specs.Walk.{start_of, step_of, is_end, Stop, stopped, ended, broken, walked, last_place, last_floor, search_by, search_of}
-use Rattle.walk.specs.contracts.Step as Steps
 use Rattle.walk.proofs.Passed.{floor_some, total_more, Spaced, spaced_more}
 use Rattle.walk.proofs.Turn.{turn_place, all_halt, all_end, all_break}
 use Rattle.walk.proofs.Passed.{None, Says, said}
 use Rattle.walk.proofs.Gathered.{Seeking}
 use Rattle.walk.proofs.ToEnd.{Reached}
+use Rattle.walk.proofs.OneStep.{NotAt}
 
 module _ {align : ℕ} (p : Power align) (h : Addr) where
   -- the two ways to compute it
@@ -105,7 +103,7 @@ module _ (want align : ℕ) {h : Heap} {m : List ℕ} {cursor : Cursor} {floor :
     unfolding search_of search_by
     search_ended e = rw (all_end s.counting.gone is e, s.counting.counted, s.counting.summed)
 
-    pub search_broken : OneOf (1 ∷ 2 ∷ []) (tag_of Steps.the_type st) → is_end st ≡ false → search.Bad ≡ search_of h want align (holes h m)
+    pub search_broken : NotAt st → is_end st ≡ false → search.Bad ≡ search_of h want align (holes h m)
     unfolding search_of search_by
     search_broken o e = rw (all_break s.counting.gone is o e)
 

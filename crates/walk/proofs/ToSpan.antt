@@ -4,8 +4,6 @@ use mathlib.Core.Bool.{true, false}
 use mathlib.Core.List.{List, [], ◌∷◌, ◌++◌}
 use Prim.Native.Nat.{ℕ, ◌+◌, ◌≤◌, ◌<◌}
 use native.Mathlib.Omega.{arith}
-use denote.Enum.Declared.{tag_of}
-use types.Run.{OneOf}
 use borrow.Author.Tests.{ltb-true, ltb-false, lt-ltb}
 use Rattle.rules.specs.Fixed.{min_size}
 use Rattle.rules.specs.Tests.{all}
@@ -27,12 +25,12 @@ use Rattle.walk.specs.declared.Step.TheVariants as step
 use Rattle.walk.specs.declared.Spot.{Spot}
 use Rattle.walk.specs.declared.Spot.TheVariants as spot
 use Rattle.walk.specs.Walk.{start_of, step_of, is_end, Stop, stopped, ended, broken, last_place, last_floor, is_beyond, near_to, near_by, near_of}
-use Rattle.walk.specs.contracts.Step as Steps
 use Rattle.walk.proofs.Passed.{Spaced}
 use Rattle.walk.proofs.Turn.{turn_place, end_place, all_halt, all_end, all_break}
 use Rattle.walk.proofs.Passed.{None, Came, Says, said}
 use Rattle.walk.proofs.Gathered.{Seeking}
 use Rattle.walk.proofs.ToEnd.{Reached}
+use Rattle.walk.proofs.OneStep.{NotAt}
 
 -- ---- the loop
 
@@ -51,7 +49,7 @@ module _ (x : Addr) {h : Heap} {m : List ℕ} {cursor : Cursor} {floor : Addr} {
     unfolding near_of near_by first_of
     near_ended e = rw (all_end s.counting.gone is e, ← s.prev, ← end_place s.counting.gone is e, ← s.counting.gone.behind, ← s.counting.summed)
 
-    pub near_broken : OneOf (1 ∷ 2 ∷ []) (tag_of Steps.the_type st) → is_end st ≡ false → spot.Bad ≡ near_of h x (holes h m)
+    pub near_broken : NotAt st → is_end st ≡ false → spot.Bad ≡ near_of h x (holes h m)
     unfolding near_of near_by
     near_broken o e = rw (all_break s.counting.gone is o e)
 

@@ -7,8 +7,6 @@ use Prim.Native.Nat.{ℕ, zero, suc, ◌+◌, ◌*◌, ◌-◌, ◌≤◌, ◌<�
 use native.Mathlib.Omega.{arith}
 use lib.Dec.{eqb}
 use lib.ListN.{length}
-use denote.Enum.Declared.{tag_of}
-use types.Run.{OneOf}
 use borrow.Author.Tests.{eqb-true, eqb-false, eq-eqb, ne_eqb}
 use Rattle.rules.specs.Fixed.{min_size, addr_limit}
 use Rattle.rules.specs.Kinds.{place_of, none, is_none}
@@ -25,8 +23,7 @@ use Rattle.rules.proofs.Lists.{from_none, from_step, place_back, first_from, hol
 use Rattle.walk.specs.declared.Step.{Step}
 use Rattle.walk.specs.declared.Step.TheVariants as step
 use Rattle.walk.specs.Walk.{Enough, start_of, step_of, is_end, Stop, stopped, ended, broken, past, walked, last_floor}
-use Rattle.walk.specs.contracts.Step as Steps
-use Rattle.walk.proofs.OneStep.{hole_at, Found, finds, is_end_lem, is_bad}
+use Rattle.walk.proofs.OneStep.{NotAt, hole_at, Found, finds, is_end_lem, is_bad}
 use Rattle.walk.proofs.Passed.{past_none, past_more, floor_some, Spaced, spaced_none, spaced_more}
 
 -- ---- the list at a place
@@ -187,7 +184,7 @@ module _ {w : Walk} {at : Place} {floor : Addr} {front : List Hole} (g : Gone w 
       l.same ∙ rw (holes_none l.rest w.h w.m at t.0, t.1, append-nil)
 
   -- or a broken rule
-  pub breaks : OneOf (1 ∷ 2 ∷ []) (tag_of Steps.the_type st) → is_end st ≡ false → (n : ℕ) → Enough w.h w.low n
+  pub breaks : NotAt st → is_end st ≡ false → (n : ℕ) → Enough w.h w.low n
       → over w (few w n) ≡ broken
   unfolding walked past
   breaks o e n en =
@@ -267,6 +264,6 @@ module _ {stops : Hole → Bool} {h : Heap} {m : List ℕ} {at : Place} {floor :
     pub all_end : is_end st ≡ true → walked stops h (start_of h) (holes h m) ≡ ended front
     all_end e = let s = start h m g.fair in rw s.list (ends_here g is e (suc (most h)) s.enough)
 
-    pub all_break : OneOf (1 ∷ 2 ∷ []) (tag_of Steps.the_type st) → is_end st ≡ false
+    pub all_break : NotAt st → is_end st ≡ false
         → walked stops h (start_of h) (holes h m) ≡ broken
     all_break o e = let s = start h m g.fair in rw s.list (breaks g is o e (suc (most h)) s.enough)
