@@ -5,8 +5,6 @@ use mathlib.Core.List.{List, [], ◌∷◌}
 use Prim.Native.Nat.{ℕ}
 use native.Mathlib.Omega.{arith}
 use lib.ListN.{length}
-use denote.Enum.Declared.{tag_of}
-use types.Run.{OneOf}
 use borrow.Author.Tests.{eq-eqb, ne_eqb}
 use Rattle.rules.specs.Sound.{sound_numbers}
 use Rattle.rules.specs.Calls.{Call, refused}
@@ -75,20 +73,15 @@ fulfils_no c h m later {r} v = fulfils_left c h m (refused r) (refuses_call c h 
 
 -- ---- as a call parts the two by an `if let`
 
--- what is not no lets the call go on
-pub tested_fair : (v : Checked) → OneOf (0 ∷ []) (tag_of Verdict.the_type v) → v ≡ Fair
-tested_fair Fair o = refl
-tested_fair (No r) o = absurd (omega arith)
-
 -- the numbers keep their rules, and the arena has the length that they say
 pub record Tested (h : Heap) (m : List ℕ) : Type 0 where
   pub lent : Lent h m
   pub numbers : sound_numbers h ≡ true
 
 module _ {v : Checked} {len : ℕ} (h : Heap) (m : List ℕ) (lent : len ≡ length m) (said : v ≡ checked_of len h) where
-  pub tested : OneOf (0 ∷ []) (tag_of Verdict.the_type v) → Tested h m
-  tested o =
-      let p = passes len h (sym said ∙ tested_fair v o) in
+  pub tested : v ≡ Fair → Tested h m
+  tested e =
+      let p = passes len h (sym said ∙ e) in
       record { lent = record { fair = sound_fair h p.1; lent = sym lent ∙ p.0 }; numbers = p.1 }
 
   -- the call refuses

@@ -5,8 +5,6 @@ use mathlib.Core.List.{List, [], ◌∷◌}
 use Prim.Native.Nat.{ℕ, ◌%◌, ◌^◌, ◌<◌}
 use native.Mathlib.Omega.{arith}
 use lib.ListN.{length}
-use denote.Enum.Declared.{tag_of}
-use types.Run.{OneOf}
 use Rattle.rules.specs.Fixed.{grain, width}
 use Rattle.rules.specs.Sound.{sound_numbers, sound_holes, holes}
 use Rattle.rules.specs.Calls.{Call}
@@ -18,7 +16,6 @@ use Rattle.rules.specs.declared.Refusal.TheVariants.{NotSound, BadLayout}
 use Rattle.rules.specs.declared.Layout.{Layout}
 use Rattle.rules.specs.declared.Layout.TheVariants.{Rounded, Bad}
 use Rattle.rules.specs.Inner.{Lent, refusing, Fulfils}
-use Rattle.rules.specs.contracts.Layout as Layouts
 use Rattle.rules.proofs.Layouts.{rounded_least, rounded_multiple, layout_valid}
 use Rattle.rules.proofs.Walk.{sound_fair}
 use Rattle.rules.proofs.Decide.{rest, Opens}
@@ -31,11 +28,6 @@ use Rattle.numbers.proofs.Verdicts.{passes, fulfils_no}
 use Rattle.walk.specs.Settled.{Asked}
 use Rattle.request.specs.declared.Request.TheVariants.{Of, No}
 use Rattle.request.specs.Requested.{by_layout, by_numbers, request_of}
-
--- what is not rounded is bad, as a `let .. else` parts it
-pub bad_is : (l : Layout) → OneOf (1 ∷ []) (tag_of Layouts.the_type l) → l ≡ Bad
-bad_is (Rounded w) o = absurd (omega arith)
-bad_is Bad o = refl
 
 -- all that a call leans on
 pub record Requested (h : Heap) (m : List ℕ) (s align w : ℕ) : Type 0 where

@@ -1,0 +1,44 @@
+-- `joining::insert` meets its contract, whether or not the hole before the span ends there. Assumes nothing.
+use mathlib.Core.Path.{◌≡◌, sym, ◌∙◌}
+use native.Mathlib.Omega.{arith}
+use borrow.Author.Rules.{rules}
+use borrow.Author.Tests.{not-true, not-false}
+use Rattle.rules.specs.Kinds.{none}
+use Rattle.joining.proofs.Between.{Bounds}
+use Rattle.joining.proofs.Inserted.{may_merge, may_end, bounds_at, ends_there, insert_apart, insert_joined}
+use Rattle.joining.proofs.insert.Goals as goal
+
+-- ---- what is known once the head is merged, and once the hole before was looked at
+
+-- ---- the needs
+
+pub try_merge_next-merged-requires : goal.try_merge_next-merged-requires
+try_merge_next-merged-requires c = may_merge c.requires.0 c.requires.1
+
+pub place_of-at-requires : goal.place_of-at-requires
+place_of-at-requires c = ((bounds_at c.requires.0 c.requires.1 c.try_merge_next-merged.ensures)).low
+
+pub ends_at-requires : goal.ends_at-requires
+ends_at-requires c = may_end c.requires.0 c.requires.1
+
+pub link-requires : goal.link-requires
+link-requires c = (bounds_at c.requires.0 c.requires.1 c.try_merge_next-merged.ensures).before
+
+pub returns-then-not-ends_at : goal.returns-then-not-ends_at
+returns-then-not-ends_at c = rw c.link.ensures
+    (insert_apart c.requires.0 c.requires.1 c.try_merge_next-merged.ensures c.place_of-at.ensures
+    (sym c.ends_at.ensures ∙ c.if-not-ends_at.true))
+
+pub read_head-before-requires : goal.read_head-before-requires
+read_head-before-requires c =
+    (bounds_at c.requires.0 c.requires.1 c.try_merge_next-merged.ensures).before ((ends_there c.requires.0 c.requires.1 c.try_merge_next-merged.ensures c.place_of-at.ensures (sym c.ends_at.ensures ∙ c.if-not-ends_at.false)))
+
+pub overflow_add-one : goal.overflow_add-one
+overflow_add-one c =
+    let fits = (bounds_at c.requires.0 c.requires.1 c.try_merge_next-merged.ensures).sum (ends_there c.requires.0 c.requires.1 c.try_merge_next-merged.ensures c.place_of-at.ensures (sym c.ends_at.ensures ∙ c.if-not-ends_at.false)) in
+    rw c.read_head-before.ensures (omega arith)
+
+pub returns : goal.returns
+returns c = rw c.nothing.ensures
+    (insert_joined c.requires.0 c.requires.1 c.try_merge_next-merged.ensures c.place_of-at.ensures
+    (sym c.ends_at.ensures ∙ c.if-not-ends_at.false) c.read_head-before.ensures)

@@ -1,0 +1,30 @@
+-- `open::new` meets its contract: what it rounds base up to is bottom. Assumes nothing.
+use mathlib.Core.Path.{◌≡◌}
+use native.Mathlib.Omega.{arith}
+use borrow.Author.Rules.{rules}
+use Rattle.rules.specs.Fixed.{grain}
+use Rattle.rules.specs.Kinds.{raised}
+use Rattle.rules.specs.Holes.{first_of}
+use Rattle.rules.specs.Calls.{opened}
+use Rattle.rules.proofs.Powers.{grain_power}
+use Rattle.numbers.proofs.Refused.{Openable, may_open}
+use Rattle.open.proofs.Begun.{is_bottom}
+use Rattle.open.proofs.new.Goals as goal
+
+-- ---- what is known from the start, and once bottom is known
+
+-- ---- the needs
+
+pub align_up-bottom-requires : goal.align_up-bottom-requires
+align_up-bottom-requires c = (grain_power, omega (arith, ((may_open c.args.len c.args.base c.args.named c.requires)).low))
+
+pub overflow_sub-left-2 : goal.overflow_sub-left-2
+overflow_sub-left-2 c = rw ((is_bottom c.args.base _ c.align_up-bottom.ensures)) (omega (arith, ((may_open c.args.len c.args.base c.args.named c.requires)).room))
+
+pub overflow_add-result : goal.overflow_add-result
+overflow_add-result c = let o = (may_open c.args.len c.args.base c.args.named c.requires) in
+    rw ((is_bottom c.args.base _ c.align_up-bottom.ensures)) (omega (arith, o.room, o.within, o.low))
+
+pub returns : goal.returns
+unfolding opened first_of
+returns c = rw (c.place_of-first.ensures, (is_bottom c.args.base _ c.align_up-bottom.ensures))

@@ -1,0 +1,18 @@
+-- `open::open` meets its contract: what was decided for an arena of this length is written. Assumes nothing.
+use mathlib.Core.Path.{sym}
+use borrow.Author.Rules.{rules}
+use Rattle.rules.specs.Calls.{opening}
+use Rattle.rules.specs.Outcome.{After, after}
+use Rattle.rules.specs.Inner.{Fulfils}
+use Rattle.rules.proofs.Written.{is_written}
+use Rattle.open.proofs.open.Goals as goal
+
+-- ---- what is decided
+
+-- ---- the needs
+
+pub write-requires : goal.write-requires
+write-requires c = let e = (c.decide-d.ensures c.args.arena.now (sym c.arena_len.ensures.0)) in (e.heads.one, e.heads.two)
+
+pub returns : goal.returns
+returns c = is_written ((c.decide-d.ensures c.args.arena.now (sym c.arena_len.ensures.0))) c.write.ensures
