@@ -7,8 +7,6 @@ use Prim.Native.Nat.{ℕ, ◌+◌, ◌≤◌}
 use native.Mathlib.Omega.{arith}
 use lib.Dec.{eqb}
 use lib.ListN.{length}
-use denote.Enum.Declared.{tag_of}
-use types.Run.{OneOf}
 use Rattle.rules.specs.Fixed.{min_size}
 use Rattle.rules.specs.Kinds.{none}
 use Rattle.rules.specs.Holes as Holes
@@ -55,11 +53,10 @@ module _ (h : Heap) (m : List ℕ) (want align : ℕ) {f : Fit} (fair : Fair h) 
 -- ---- no hole suits, or a head breaks a rule
 
 -- a search that a `let .. else` parts from a full one
-pub not_full : (h : Heap) (s : Search) → OneOf (0 ∷ 2 ∷ []) (tag_of Searches.the_type s) → no_fit h s ≡ NotSound
+pub not_full : (h : Heap) (s : Search) → ((count total : ℕ) → s ≡ search.Nowhere count total → ⊥) → no_fit h s ≡ NotSound
 unfolding no_fit
 not_full h (search.At f) o = refl
-not_full h (search.Nowhere count total) (inl e) = absurd (omega arith)
-not_full h (search.Nowhere count total) (inr e) = absurd (omega arith)
+not_full h (search.Nowhere count total) o = absurd (o count total refl)
 not_full h search.Bad o = refl
 
 -- what is decided then is what the outcome says
@@ -90,8 +87,7 @@ module _ (h : Heap) (m : List ℕ) (want align : ℕ) (fair : Fair h) where
       let w = fit_bad h want align ks (sym e) in
       fulfils_broken h m ks (takes want align h m) (rw (by_walk h m fair, w))
 
-  pub no_fit_is : (s : Search) → OneOf (1 ∷ 2 ∷ []) (tag_of Searches.the_type s) → Refuses h m want align s
-  no_fit_is (search.At f) (inl e) = absurd (omega arith)
-  no_fit_is (search.At f) (inr e) = absurd (omega arith)
+  pub no_fit_is : (s : Search) → ((f : Fit) → s ≡ search.At f → ⊥) → Refuses h m want align s
+  no_fit_is (search.At f) o = absurd (o f refl)
   no_fit_is (search.Nowhere count total) o = full_is count total
   no_fit_is search.Bad o = bad_is

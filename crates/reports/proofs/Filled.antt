@@ -6,8 +6,6 @@ use Prim.Native.Nat.{ℕ, zero, suc, ◌+◌, ◌≤◌, ◌<◌, min}
 use native.Mathlib.Omega.{arith}
 use lib.ListN.{length, length-map, set, take}
 use lib.Seq.{take_all, take_at}
-use denote.Enum.Declared.{tag_of}
-use types.Run.{OneOf}
 use Rattle.rules.specs.Kinds.{number}
 use Rattle.rules.specs.Sound.{sound_holes, holes}
 use Rattle.rules.specs.Outcome.{rows, over, in_rows}
@@ -22,7 +20,7 @@ use Rattle.walk.specs.Walk.{start_of, step_of, is_end, never}
 use Rattle.walk.specs.Settled.{Settled}
 use Rattle.walk.specs.declared.Step.{Step}
 use Rattle.walk.specs.declared.Step.TheVariants as step
-use Rattle.walk.specs.contracts.Step as Steps
+use Rattle.walk.proofs.OneStep.{NotAt}
 use Rattle.walk.proofs.Passed.{count_more}
 use Rattle.walk.proofs.Turn.{Gone, all, begins_all, goes_on, all_left, all_end, all_break}
 use Rattle.walk.proofs.ToEnd.{by_end, by_break}
@@ -94,7 +92,7 @@ module _ (h : Heap) (m addrs₀ sizes₀ : List ℕ) where
           }
 
       -- no further hole
-      pub fills_ended : sound_holes h (holes h m) ≡ true → OneOf (1 ∷ 2 ∷ []) (tag_of Steps.the_type st)
+      pub fills_ended : sound_holes h (holes h m) ≡ true → NotAt st
           → rows addrs sizes ≡ in_rows (holes h m) (rows addrs₀ sizes₀)
       unfolding in_rows
       fills_ended s o =

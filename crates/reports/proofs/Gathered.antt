@@ -6,8 +6,6 @@ use mathlib.Core.List.{List, [], ◌∷◌, ◌++◌}
 use Prim.Native.Nat.{ℕ, ◌+◌, ◌-◌, ◌≤◌, ◌<◌, max}
 use native.Mathlib.Omega.{arith}
 use borrow.Author.Tests.{le-leb, lt-leb}
-use denote.Enum.Declared.{tag_of}
-use types.Run.{OneOf}
 use Rattle.rules.specs.Fixed.{min_size}
 use Rattle.rules.specs.Sound.{sound_holes, holes, size}
 use Rattle.rules.specs.declared.Addr.{Addr}
@@ -17,7 +15,7 @@ use Rattle.rules.specs.declared.Heap.{Heap}
 use Rattle.rules.proofs.Cases.{cases, apart, by_test}
 use Rattle.walk.specs.Walk.{step_of, is_end, never}
 use Rattle.walk.specs.declared.Step.{Step}
-use Rattle.walk.specs.contracts.Step as Steps
+use Rattle.walk.proofs.OneStep.{NotAt}
 use Rattle.walk.proofs.Turn.{all_end, all_break}
 use Rattle.walk.proofs.ToEnd.{by_end, by_break}
 use Rattle.walk.proofs.Gathered.{Counting}
@@ -66,7 +64,7 @@ module _ (align : ℕ) where
 -- ---- a pass
 
 module _ {h : Heap} {m : List ℕ} {at : Place} {floor : Addr} {total n : ℕ} {front : List Hole} (c : Counting never h m at floor total n front) where
-  module _ {st : Step} (is : st ≡ step_of h m at floor) (o : OneOf (1 ∷ 2 ∷ []) (tag_of Steps.the_type st)) where
+  module _ {st : Step} (is : st ≡ step_of h m at floor) (o : NotAt st) where
     decides : ends_sound h st total ≡ sound_holes h (holes h m)
     unfolding ends_sound
     decides =

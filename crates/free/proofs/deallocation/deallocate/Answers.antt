@@ -1,0 +1,54 @@
+-- `free::deallocation::deallocate` meets its contract: the walk decides 5, the neighbours 8, and the span is inserted. Assumes nothing.
+use mathlib.Core.Path.{◌≡◌, sym, ◌∙◌}
+use mathlib.Core.Bool.{true}
+use borrow.Author.Rules.{rules}
+use borrow.Author.Tests.{not-true, not-false}
+use Rattle.rules.specs.Holes.{hole}
+use Rattle.rules.specs.Sound.{sound_holes, holes}
+use Rattle.rules.proofs.Written.{fulfils_broken}
+use Rattle.walk.specs.declared.Near.{Near}
+use Rattle.free.specs.SpanTests.{may_free, frees}
+use Rattle.joining.proofs.Neighbours.{near_broken, Sought, seeks, starts, goes_on}
+use Rattle.free.proofs.Freeing.{Known, span_around, span_refused, span_free, span_used, span_freed}
+use Rattle.free.proofs.deallocation.deallocate.Goals as goal
+
+-- ---- what is known once the search has found neighbours, once the walk behind them adds up, and once the span is tested
+
+-- ---- the needs
+
+pub returns-in_default : goal.returns-in_default
+returns-in_default c = let h = c.args.h in
+    let m = c.args.arena.now in
+    let a = c.args.addr in
+    let broken = near_broken h m a c.requires.0.lent.fair c.neighbours-spot.ensures c.in_default.is in
+    rw c.refuse.ensures (fulfils_broken h m (holes h m) (frees c.args.size a c.args.align h m) broken)
+
+pub walk-requires : goal.walk-requires
+walk-requires c = let w = starts ((seeks c.requires.0.lent.fair c.neighbours-spot.ensures c.in-Between.is)) in (c.requires.0.lent, w.0, w.1)
+
+pub returns-then-not-adds_up : goal.returns-then-not-adds_up
+returns-then-not-adds_up c = let h = c.args.h in
+    let m = c.args.arena.now in
+    rw c.refuse-then-not-adds_up.ensures
+    (fulfils_broken h m (holes h m) (frees c.args.size c.args.addr c.args.align h m)
+    ((goes_on ((seeks c.requires.0.lent.fair c.neighbours-spot.ensures c.in-Between.is)) c.walk.ensures ∙ sym c.adds_up.ensures) ∙ c.if-not-adds_up.true))
+
+pub may_free-requires : goal.may_free-requires
+may_free-requires c = (c.requires.0.lent.fair, c.requires.1.power, span_around ((record { sought = (seeks c.requires.0.lent.fair c.neighbours-spot.ensures c.in-Between.is); sound = (goes_on ((seeks c.requires.0.lent.fair c.neighbours-spot.ensures c.in-Between.is)) c.walk.ensures ∙ sym c.adds_up.ensures) ∙ c.if-not-adds_up.false })) c.args.size)
+
+pub returns-then-not-may_free : goal.returns-then-not-may_free
+returns-then-not-may_free c = rw c.refuse-then-not-may_free.ensures
+    (span_refused ((record { sought = (seeks c.requires.0.lent.fair c.neighbours-spot.ensures c.in-Between.is); sound = (goes_on ((seeks c.requires.0.lent.fair c.neighbours-spot.ensures c.in-Between.is)) c.walk.ensures ∙ sym c.adds_up.ensures) ∙ c.if-not-adds_up.false })) c.args.size c.args.align c.requires.1.least
+    (sym c.may_free.ensures ∙ c.if-not-may_free.true))
+
+pub insert-list-requires : goal.insert-list-requires
+insert-list-requires c = (
+      record { ready = c.requires.0; sound = ((goes_on (seeks c.requires.0.lent.fair c.neighbours-spot.ensures c.in-Between.is) c.walk.ensures ∙ sym c.adds_up.ensures) ∙ c.if-not-adds_up.false) },
+      span_free ((record { sought = (seeks c.requires.0.lent.fair c.neighbours-spot.ensures c.in-Between.is); sound = (goes_on ((seeks c.requires.0.lent.fair c.neighbours-spot.ensures c.in-Between.is)) c.walk.ensures ∙ sym c.adds_up.ensures) ∙ c.if-not-adds_up.false })) c.args.size c.args.align c.requires.1.least ((sym c.may_free.ensures ∙ c.if-not-may_free.false)),
+    )
+
+pub overflow_sub-used : goal.overflow_sub-used
+overflow_sub-used c = span_used ((record { sought = (seeks c.requires.0.lent.fair c.neighbours-spot.ensures c.in-Between.is); sound = (goes_on ((seeks c.requires.0.lent.fair c.neighbours-spot.ensures c.in-Between.is)) c.walk.ensures ∙ sym c.adds_up.ensures) ∙ c.if-not-adds_up.false })) c.args.size c.args.align c.requires.1.least ((sym c.may_free.ensures ∙ c.if-not-may_free.false))
+
+pub returns : goal.returns
+returns c = span_freed ((record { sought = (seeks c.requires.0.lent.fair c.neighbours-spot.ensures c.in-Between.is); sound = (goes_on ((seeks c.requires.0.lent.fair c.neighbours-spot.ensures c.in-Between.is)) c.walk.ensures ∙ sym c.adds_up.ensures) ∙ c.if-not-adds_up.false })) c.args.size c.args.align c.requires.1.least ((sym c.may_free.ensures ∙ c.if-not-may_free.false)) c.insert-list.ensures
