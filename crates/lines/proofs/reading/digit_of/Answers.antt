@@ -1,0 +1,32 @@
+-- `lines::reading::digit_of` meets its contract: each test that it makes decides one of the definition. Assumes nothing.
+use native.Mathlib.Omega.{arith}
+use borrow.Author.Tests.{le-leb, lt-leb}
+use Rattle.lines.specs.Frames.{digit}
+use borrow.Author.Rules.{rules}
+use Rattle.lines.proofs.reading.digit_of.Goals as goal
+
+pub returns-then-b-lt48 : goal.returns-then-b-lt48
+unfolding digit
+returns-then-b-lt48 c = let b = c.args.b in
+    simp (lt-leb 48 b (omega arith), lt-leb 97 b (omega arith))
+
+pub returns-then-b-le57 : goal.returns-then-b-le57
+unfolding digit
+returns-then-b-le57 c = let b = c.args.b in
+    simp (le-leb 48 b (omega arith), le-leb b 57 (omega arith))
+
+pub returns-then-b-lt97 : goal.returns-then-b-lt97
+unfolding digit
+returns-then-b-lt97 c = let b = c.args.b in
+    simp (le-leb 48 b (omega arith), lt-leb b 57 (omega arith), lt-leb 97 b (omega arith))
+
+pub returns-then-b-le102 : goal.returns-then-b-le102
+unfolding digit
+returns-then-b-le102 c = let b = c.args.b in
+    simp (le-leb 48 b (omega arith), lt-leb b 57 (omega arith), le-leb 97 b (omega arith), le-leb b 102 (omega arith))
+    (omega arith)
+
+pub returns : goal.returns
+unfolding digit
+returns c = let b = c.args.b in
+    simp (le-leb 48 b (omega arith), lt-leb b 57 (omega arith), le-leb 97 b (omega arith), lt-leb b 102 (omega arith))
