@@ -1,0 +1,13 @@
+-- `c_face::calls::lantern_free` meets its contract: it is `free::decide` on the heap that the words say, carried out. Assumes nothing.
+use borrow.Author.Rules.{rules}
+use Rattle.rules.specs.Kinds.{addr}
+use Rattle.rules.specs.Calls.{free}
+use Rattle.c_face.proofs.Loaded.{shown}
+use Rattle.c_face.proofs.calls.lantern_free.Goals as goal
+
+pub carry_out-requires : goal.carry_out-requires
+carry_out-requires c = let e = c.decide-d.ensures in (e.heads.one, e.heads.two)
+
+pub returns : goal.returns
+returns c = let s = c.args in
+    shown s.heap.now c.load.ensures (free (addr s.at) s.size s.align) s.arena.now c.decide-d.result c.decide-d.ensures c.carry_out.ensures

@@ -1,0 +1,13 @@
+-- `c_face::calls::lantern_resize` meets its contract: it is `resize::decide` on the heap that the words say, carried out. Assumes nothing.
+use borrow.Author.Rules.{rules}
+use Rattle.rules.specs.Kinds.{addr}
+use Rattle.rules.specs.Calls.{resize}
+use Rattle.c_face.proofs.Loaded.{shown}
+use Rattle.c_face.proofs.calls.lantern_resize.Goals as goal
+
+pub carry_out-requires : goal.carry_out-requires
+carry_out-requires c = let e = c.decide-d.ensures in (e.heads.one, e.heads.two)
+
+pub returns : goal.returns
+returns c = let s = c.args in
+    shown s.heap.now c.load.ensures (resize (addr s.at) s.old s.align s.new) s.arena.now c.decide-d.result c.decide-d.ensures c.carry_out.ensures
