@@ -6,29 +6,21 @@
 use answers::answer_numbers;
 use numbers::Checked;
 use rules::{ARENA_LIMIT, Addr, Answer, Heap, Place};
+use std::io;
 
-const OUT: i32 = 1;
-
-fn tell(len: u64, answer: Answer) {
+fn tell(rt: &impl Print, len: u64, answer: Answer) -> io::Result<()> {
     let told = answer_numbers(answer);
-    io::print_hex(OUT, len, 16);
-    io::write_all(OUT, b" ");
-    io::print_hex(OUT, told.0, 2);
-    io::write_all(OUT, b" ");
-    io::print_hex(OUT, told.1, 16);
-    io::write_all(OUT, b" ");
-    io::print_hex(OUT, told.2, 16);
-    io::write_all(OUT, b"\n");
+    println!(rt; "{len:016x} {:02x} {:016x} {:016x}", told.0, told.1, told.2)
 }
 
-fn opens(len: u64) {
+fn opens(rt: &impl Print, len: u64) -> io::Result<()> {
     let d = open::decide(open::empty(), len, Addr(0x1000), len);
     let answer = d.answer;
-    tell(len, answer);
+    tell(rt, len, answer)
 }
 
 // A heap of one block, sound but for its length where that breaks a rule.
-fn claims(len: u64) {
+fn claims(rt: &impl Print, len: u64) -> io::Result<()> {
     let h = Heap {
         base: Addr(0x1000),
         len,
@@ -40,21 +32,16 @@ fn claims(len: u64) {
     };
     let checked = numbers::check(h, len);
     match checked {
-        Checked::Fair => {
-            io::print_hex(OUT, len, 16);
-            io::write_all(OUT, b" 00\n");
-        }
-        Checked::No(r) => {
-            tell(len, Answer::Refused(r));
-        }
+        Checked::Fair => println!(rt; "{len:016x} 00"),
+        Checked::No(r) => tell(rt, len, Answer::Refused(r)),
     }
 }
 
-fn main() {
-    opens(ARENA_LIMIT - 1);
-    opens(ARENA_LIMIT);
-    opens(ARENA_LIMIT + 1);
-    claims(ARENA_LIMIT - 1);
-    claims(ARENA_LIMIT);
-    claims(ARENA_LIMIT + 1);
+fn main(rt: HostRuntime) -> io::Result<()> {
+    opens(&rt, ARENA_LIMIT - 1)?;
+    opens(&rt, ARENA_LIMIT)?;
+    opens(&rt, ARENA_LIMIT + 1)?;
+    claims(&rt, ARENA_LIMIT - 1)?;
+    claims(&rt, ARENA_LIMIT)?;
+    claims(&rt, ARENA_LIMIT + 1)
 }

@@ -5,58 +5,52 @@
 
 use layout::align_layout;
 use rules::Layout;
+use std::io;
 
-const OUT: i32 = 1;
-
-fn space() {
-    io::write_all(OUT, b" ");
+fn space(rt: &impl Print) -> io::Result<()> {
+    print!(rt; " ")
 }
 
-fn case(size: u64, align: u64) {
-    io::print_hex(OUT, size, 16);
-    space();
-    io::print_hex(OUT, align, 16);
-    space();
+fn case(rt: &impl Print, size: u64, align: u64) -> io::Result<()> {
+    print!(rt; "{size:016x}")?;
+    space(rt)?;
+    print!(rt; "{align:016x}")?;
+    space(rt)?;
     let answer = align_layout(size, align);
     match answer {
-        Layout::Rounded(rounded) => {
-            io::print_hex(OUT, rounded, 16);
-        }
-        Layout::Bad => {
-            io::write_all(OUT, b"-");
-        }
+        Layout::Rounded(rounded) => println!(rt; "{rounded:016x}"),
+        Layout::Bad => println!(rt; "-"),
     }
-    io::write_all(OUT, b"\n");
 }
 
-fn aligned(size: u64) {
-    case(size, 0);
-    case(size, 1);
-    case(size, 2);
-    case(size, 3);
-    case(size, 8);
-    case(size, 4096);
-    case(size, 0x4000_0000_0000_0000);
-    case(size, 0x7fff_ffff_ffff_ffff);
-    case(size, 0x8000_0000_0000_0000);
-    case(size, 0xffff_ffff_ffff_ffff);
+fn aligned(rt: &impl Print, size: u64) -> io::Result<()> {
+    case(rt, size, 0)?;
+    case(rt, size, 1)?;
+    case(rt, size, 2)?;
+    case(rt, size, 3)?;
+    case(rt, size, 8)?;
+    case(rt, size, 4096)?;
+    case(rt, size, 0x4000_0000_0000_0000)?;
+    case(rt, size, 0x7fff_ffff_ffff_ffff)?;
+    case(rt, size, 0x8000_0000_0000_0000)?;
+    case(rt, size, 0xffff_ffff_ffff_ffff)
 }
 
-fn main() {
-    aligned(0);
-    aligned(1);
-    aligned(15);
-    aligned(16);
-    aligned(17);
-    aligned(0x3fff_ffff_ffff_fff8);
-    aligned(0x4000_0000_0000_0000);
-    aligned(0x4000_0000_0000_0001);
-    aligned(0x7fff_ffff_ffff_f000);
-    aligned(0x7fff_ffff_ffff_fff8);
-    aligned(0x7fff_ffff_ffff_fff9);
-    aligned(0x7fff_ffff_ffff_ffff);
-    aligned(0x8000_0000_0000_0000);
-    aligned(0x8000_0000_0000_0001);
-    aligned(0xffff_ffff_ffff_fff8);
-    aligned(0xffff_ffff_ffff_ffff);
+fn main(rt: HostRuntime) -> io::Result<()> {
+    aligned(&rt, 0)?;
+    aligned(&rt, 1)?;
+    aligned(&rt, 15)?;
+    aligned(&rt, 16)?;
+    aligned(&rt, 17)?;
+    aligned(&rt, 0x3fff_ffff_ffff_fff8)?;
+    aligned(&rt, 0x4000_0000_0000_0000)?;
+    aligned(&rt, 0x4000_0000_0000_0001)?;
+    aligned(&rt, 0x7fff_ffff_ffff_f000)?;
+    aligned(&rt, 0x7fff_ffff_ffff_fff8)?;
+    aligned(&rt, 0x7fff_ffff_ffff_fff9)?;
+    aligned(&rt, 0x7fff_ffff_ffff_ffff)?;
+    aligned(&rt, 0x8000_0000_0000_0000)?;
+    aligned(&rt, 0x8000_0000_0000_0001)?;
+    aligned(&rt, 0xffff_ffff_ffff_fff8)?;
+    aligned(&rt, 0xffff_ffff_ffff_ffff)
 }
