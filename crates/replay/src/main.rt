@@ -3,15 +3,12 @@
 // How the list was made: tests/against/sample.sh.
 #![tactic(auto)]
 
-ghost use Rattle.std.specs.Prelude.{◌+◌, ◌≤◌, length};
+ghost use Rattle.std.specs.Prelude.{◌+◌, ◌≤◌, IfOk, length};
 ghost use Rattle.lines.specs.Wire.{longest};
 
 use lines::{ARENA, LINE, LONGEST, answer_line};
 use rules::Heap;
-
-const INPUT: i32 = 0;
-
-const OUTPUT: i32 = 1;
+use std::io::{self, Read, Stdin};
 
 const LF: u8 = 10;
 
@@ -143,11 +140,26 @@ fn replay(first: Tally, text: &[u8], arena: &mut [u8; ARENA], reply: &mut [u8; L
     t
 }
 
-fn main() {
+// Reads until the room is full or the input ends, and says how many bytes came.
+fn read_full(mut stdin: Stdin, room: &mut [u8]) -> io::Result<usize>
+    ensures { IfOk result (λ n. n ≤ length room.new) }
+{
+    let mut n: usize = 0;
+    while n < room.len() {
+        let got = stdin.read(&mut room[n..])?;
+        if got == 0 {
+            return Ok(n);
+        }
+        n += got;
+    }
+    Ok(n)
+}
+
+fn main(rt: HostRuntime) -> io::Result<()> {
     let mut text = [0u8; 262144];
     let mut arena = [0u8; ARENA];
     let mut reply = [0u8; LONGEST];
-    let n = io::read_full(INPUT, &mut text);
+    let n = read_full(rt.stdin(), &mut text)?;
     let t = replay(
         Tally {
             heap: open::empty(),
@@ -160,8 +172,5 @@ fn main() {
         &mut arena,
         &mut reply,
     );
-    io::print_decimal(OUTPUT, t.agree);
-    io::write_all(OUTPUT, b" agree, ");
-    io::print_decimal(OUTPUT, differing(t));
-    io::write_all(OUTPUT, b" differ\n");
+    println!(rt; "{} agree, {} differ", t.agree, differing(t))
 }

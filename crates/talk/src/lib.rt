@@ -38,7 +38,7 @@ fn append(waiting: &mut [u8], at: usize, reply: &[u8], n: usize)
     requires { (at ≤ longest) × (n ≤ longest) × (length waiting.old ≡ answers_room) × (length reply.now ≡ longest) }
     ensures { take (at + n) waiting.new ≡ take at waiting.old ++ take n reply.now }
 {
-    bytes::copy(&reply[0..n], &mut waiting[at..]);
+    waiting[at..at + n].copy_from_slice(&reply[0..n]);
 }
 
 // Answers the line that is kept, as one that has ended.

@@ -8,8 +8,8 @@ ghost use Rattle.std.specs.Prelude.{◌≡◌, true, ◌≤◌, take};
 ghost use Rattle.talk.specs.Hearing.{answers_room, come, heard, taken};
 ghost use Rattle.wire.specs.Bounds.{Settled};
 
-use libc::{STDIN_FILENO, STDOUT_FILENO};
 use lines::{ARENA, LONGEST};
+use std::io::{Read, Stdin, Stdout};
 use talk::{KEPT, Talk, WAITING, answer, hear};
 
 // The bytes taken by one read, at most.
@@ -31,24 +31,25 @@ struct Turn {
 }
 
 // Hands answers to the output, and says whether it took them. They are all that wait, no more and no less.
-fn write_out(t: Talk, waiting: &[u8], answers: &[u8]) -> bool
+fn write_out(out: Stdout, t: Talk, waiting: &[u8], answers: &[u8]) -> bool
     requires { answers.now ≡ take t.waits waiting.now }
 {
-    io::write_all(STDOUT_FILENO, answers)
+    out.write_all(answers).is_ok()
 }
 
 // Writes what waits.
-fn flush(t: Talk, waiting: &[u8; WAITING]) -> bool
+fn flush(out: Stdout, t: Talk, waiting: &[u8; WAITING]) -> bool
     requires { t.waits ≤ answers_room }
 {
     let n = t.waits;
     let all: &[u8] = waiting;
-    write_out(t, all, &all[0..n])
+    write_out(out, t, all, &all[0..n])
 }
 
 // Hears bytes to their end, and writes the answers whenever one more might not find room. It stops
 // where the output does not take them.
 fn answer_all(
+    out: Stdout,
     first: Talk,
     bytes: &[u8],
     arena: &mut [u8; ARENA],
@@ -66,7 +67,7 @@ fn answer_all(
         at = h.to;
         let talk = h.talk;
         t = Talk { waits: 0, ..talk };
-        if !flush(talk, waiting) {
+        if !flush(out, talk, waiting) {
             return Answered {
                 talk: t,
                 taken: false,
@@ -82,6 +83,8 @@ fn answer_all(
 // Reads once, and answers every whole line that has come before it waits for more. A line that a failed
 // read cuts off is not answered: nothing says that it has ended.
 fn read_once(
+    mut from: Stdin,
+    out: Stdout,
     t: Talk,
     input: &mut [u8; INPUT],
     arena: &mut [u8; ARENA],
@@ -92,15 +95,14 @@ fn read_once(
     requires { Settled t }
     ensures { Settled result.talk }
 {
-    let got = libc::read(STDIN_FILENO, input);
-    if got < 0 {
+    let Ok(n) = from.read(input) else {
         return Turn {
             talk: Talk { kept: 0, ..t },
             more: false,
             taken: true,
         };
-    }
-    if got == 0 {
+    };
+    if n == 0 {
         return Turn {
             talk: t,
             more: false,
@@ -108,8 +110,7 @@ fn read_once(
         };
     }
     let all: &[u8] = input;
-    let n = io::count(got, all);
-    let answered = answer_all(t, &all[0..n], arena, line, reply, waiting);
+    let answered = answer_all(out, t, &all[0..n], arena, line, reply, waiting);
     let talk = answered.talk;
     Turn {
         talk,
@@ -120,7 +121,7 @@ fn read_once(
 
 // A proved loop has to end, and nothing says that the input does: the turns are counted down from a
 // number that no run uses up.
-fn main() {
+fn main(rt: HostRuntime) {
     let mut input = [0u8; INPUT];
     let mut arena = [0u8; ARENA];
     let mut line = [0u8; KEPT];
@@ -136,6 +137,8 @@ fn main() {
     let mut turns = u64::MAX;
     while turns > 0 && goes_on {
         let r = read_once(
+            rt.stdin(),
+            rt.stdout(),
             t,
             &mut input,
             &mut arena,
@@ -152,6 +155,6 @@ fn main() {
     // The last line may lack its LF.
     if t.kept > 0 && taken {
         let last = answer(t, &mut arena, &line, &mut reply, &mut waiting);
-        flush(last, &waiting);
+        flush(rt.stdout(), last, &waiting);
     }
 }
