@@ -437,11 +437,12 @@ def closed_output(**options):
 
 
 def closed_by_signal():
-    assert closed_output() == -13
+    """The signal would end the program, but from its start on it ignores it, so that the write fails."""
+    assert closed_output() == 0
 
 
 def closed_by_answer():
-    """The same where the signal is ignored, so that the write fails."""
+    """The same where the signal is ignored before the program starts."""
     assert closed_output(restore_signals=False) == 0
 
 
