@@ -1,16 +1,16 @@
 -- The hole that an allocation found, used and split: the few heads to be written are those of the new list. Assumes nothing.
-use mathlib.Core.Path.{◌≡◌, refl, sym, ◌∙◌}
+use mathlib.Core.Path.{◌≡◌, sym, ◌∙◌}
 use mathlib.Core.Bool.{false}
 use mathlib.Core.List.{List, ◌∷◌, ◌++◌}
-use Prim.Native.Nat.{ℕ, ◌+◌, ◌-◌, ◌≤◌, ◌<◌}
+use Prim.Native.Nat.{ℕ, ◌+◌, ◌≤◌, ◌<◌}
 use native.Mathlib.Omega.{arith}
 use lib.ListN.{length}
 use borrow.Author.Tests.{eq-eqb, ne_eqb}
 use Rattle.rules.specs.Fixed.{min_size, addr_limit}
-use Rattle.rules.specs.Kinds.{place_of, plus, bytes_to, none, is_none}
-use Rattle.rules.specs.Holes.{hole, end, first_of}
+use Rattle.rules.specs.Kinds.{place_of, plus, none, is_none}
+use Rattle.rules.specs.Holes.{end, first_of}
 use Rattle.rules.specs.Sound.{holes}
-use Rattle.rules.specs.Allocate.{candidate, suits, remains, split}
+use Rattle.rules.specs.Allocate.{candidate, remains, split}
 use Rattle.rules.specs.Calls.{taken}
 use Rattle.rules.specs.declared.Addr.{Addr}
 use Rattle.rules.specs.declared.Place.{Place}
@@ -18,7 +18,7 @@ use Rattle.rules.specs.declared.Hole.{Hole}
 use Rattle.rules.specs.declared.Heap.{Heap}
 use Rattle.rules.specs.declared.Write.{Write}
 use Rattle.rules.specs.declared.Answer.TheVariants.{Allocated}
-use Rattle.rules.specs.Inner.{first_or, put_heads_to, put, write, nothing, written, Inside, Fulfils, Rises, end_or}
+use Rattle.rules.specs.Inner.{first_or, put_heads_to, put, nothing, written, Inside, Fulfils, Rises, end_or}
 use Rattle.rules.proofs.Cases.{by_eq}
 use Rattle.rules.proofs.Powers.{power_pos}
 use Rattle.rules.proofs.Rises.{rises_le, rises_front, rises_back}
@@ -28,7 +28,6 @@ use Rattle.rules.proofs.Used.{candidate_low, suits_fits, suits_leaves, used_rise
 use Rattle.rules.proofs.Written.{fulfils_changed}
 use Rattle.walk.specs.Settled.{Asked}
 use Rattle.walk.specs.declared.Fit.{Fit}
-use Rattle.walk.specs.declared.Search.TheVariants as search
 use Rattle.walk.proofs.ToFit.{Fits}
 use Rattle.walk.specs.Settled.{Settled}
 use Rattle.walk.proofs.Stands.{stands}

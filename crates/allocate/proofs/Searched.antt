@@ -1,14 +1,12 @@
 -- The search that an allocation begins with: the hole that it found, the walk that goes on behind it, and the refusal where no hole suits.
 -- Assumes nothing.
 use mathlib.Core.Path.{◌≡◌, refl, sym}
-use mathlib.Core.Logic.{inl, inr}
 use mathlib.Core.List.{List, [], ◌∷◌, ◌++◌}
 use Prim.Native.Nat.{ℕ, ◌+◌, ◌≤◌}
 use native.Mathlib.Omega.{arith}
 use lib.Dec.{eqb}
 use lib.ListN.{length}
 use Rattle.rules.specs.Fixed.{min_size}
-use Rattle.rules.specs.Kinds.{none}
 use Rattle.rules.specs.Holes as Holes
 use Rattle.rules.specs.Holes.{end, holes_from}
 use Rattle.rules.specs.Sound.{size, sound_holes, holes}
@@ -23,7 +21,6 @@ use Rattle.walk.specs.declared.Fit.{Fit}
 use Rattle.walk.specs.declared.Walked.{Walked}
 use Rattle.walk.specs.declared.Search.{Search}
 use Rattle.walk.specs.declared.Search.TheVariants as search
-use Rattle.walk.specs.contracts.Search as Searches
 use Rattle.walk.proofs.ToFit.{Fits, fit_at, fit_bad, fit_nowhere, fit_reached}
 use Rattle.walk.specs.Walk.{adds_up}
 use Rattle.allocate.specs.Granted.{no_fit, takes, granted_if_sound}

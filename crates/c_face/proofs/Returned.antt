@@ -1,11 +1,10 @@
 -- Which word is which, and that seven words made a heap and back are the same words. Assumes nothing.
-use mathlib.Core.Path.{◌≡◌, refl, ap}
+use mathlib.Core.Path.{◌≡◌, refl}
 use mathlib.Core.List.{List, [], ◌∷◌}
 use Prim.Native.Nat.{ℕ}
 use native.Mathlib.Omega.{arith}
-use lib.ListN.{length}
 use Rattle.rules.specs.declared.Heap.{Heap}
-use Rattle.c_face.specs.Face.{heap_of, words_of}
+use Rattle.c_face.specs.Face.{heap_of}
 use Rattle.c_face.specs.Statements.{Names, WordsName, HeapNamed, WordsReturn, HeapReturns}
 
 pub words_name : WordsName

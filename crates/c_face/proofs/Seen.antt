@@ -1,5 +1,5 @@
 -- What a caller sees of an accepted call: the words of the new heap, its answer, and heads that hold its holes. Assumes nothing.
-use mathlib.Core.Path.{◌≡◌, refl, sym, subst, ap, ◌∙◌}
+use mathlib.Core.Path.{◌≡◌, sym, subst, ap, ◌∙◌}
 use mathlib.Core.List.{List, [], ◌∷◌}
 use Prim.Native.Nat.{ℕ}
 use lib.ListN.{length}

@@ -19,7 +19,7 @@ use Rattle.rules.specs.Sound.{sound_holes}
 use Rattle.rules.specs.Allocate.{rounded, Found, nothing, found, find}
 use Rattle.rules.specs.Resize.{stretch_end}
 use Rattle.rules.specs.Changes.{Change}
-use Rattle.rules.specs.Calls.{Call, opening, change, report, allocate, free, extend, Outcome, only_hole, opened, taken, given, refitted, grown, gathered, extended, accepted}
+use Rattle.rules.specs.Calls.{Call, opening, change, report, allocate, extend, Outcome, only_hole, opened, taken, given, refitted, grown, gathered, extended, accepted}
 use Rattle.rules.specs.Refusals.{refusal6, change_tests, tests}
 use Rattle.rules.specs.Answers.{answer_numbers}
 use Rattle.rules.specs.Runs.{Fits, Ask, calls, reads, AllFit, Block, block, same_block, without, Box, start, held_after, comes_to, box_after, next_box, ends, HonestCall, Honest}

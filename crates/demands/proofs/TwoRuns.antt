@@ -1,17 +1,15 @@
 -- Two runs of the same calls, each with rows of its own: what they tell is the same, and so are the holes that they leave. Assumes nothing.
 use mathlib.Core.Path.{◌≡◌, refl, sym, ap, ◌∙◌}
 use mathlib.Core.List.{List}
-use Prim.Native.Nat.{ℕ, min}
+use Prim.Native.Nat.{ℕ}
 use native.Mathlib.Omega.{arith}
-use lib.ListN.{length}
-use Rattle.rules.specs.declared.Hole.{Hole}
 use Rattle.rules.specs.declared.Refusal.{Refusal}
 use Rattle.rules.specs.declared.Refusal.TheVariants.{BadOpening, AlreadyOpened, Unopened, OtherLength, NotSound, BadLayout, NoRoom, BadSpan, PastArena, BadStretch}
 use Rattle.rules.specs.Changes.{Report}
 use Rattle.rules.specs.Calls.{Call, opening, change, report, list, room, Outcome, refused, accepted}
 use Rattle.rules.specs.Answers.{refusal_numbers, answer_numbers}
 use Rattle.rules.specs.Outcome.{Rows, leaves_rows}
-use Rattle.rules.specs.Runs.{reading, Ask, AllFit, Told, Box, start, comes_to, answer_of, next_box, tell_box, tells, ends}
+use Rattle.rules.specs.Runs.{reading, Ask, AllFit, Box, start, comes_to, answer_of, next_box, tell_box, tells, ends}
 use Rattle.rules.specs.Statements.{SameAsks, asks_end, asks_call, asks_reader, SameRow, SameRows, SameTold, told_end, told_answer, told_number, SideBySide}
 use Rattle.rules.proofs.Passes.{by_decided}
 use Rattle.rules.proofs.Unaltered.{rows_stay}

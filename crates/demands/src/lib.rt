@@ -4,4 +4,3 @@
 // leaves out is harmless; and that every premise can be met. specs/Demands.antt gathers them all, and
 // proofs/Demands.antt has its one value.
 #![tactic(auto)]
-

@@ -19,7 +19,7 @@ use Rattle.rules.specs.declared.Heap.{Heap}
 use Rattle.rules.specs.declared.Decided.{Decided}
 use Rattle.rules.specs.declared.Refusal.TheVariants.{PastArena}
 use Rattle.rules.specs.declared.Answer.TheVariants.{Extended}
-use Rattle.rules.specs.Inner.{put, nothing, written, refusing, Relinks, Fulfils, Fair, behind, extending}
+use Rattle.rules.specs.Inner.{put, nothing, written, refusing, Relinks, Fulfils, Fair, extending}
 use Rattle.rules.proofs.Walk.{rules_keep, walks}
 use Rattle.rules.proofs.Rises.{rises_back, sound_rises}
 use Rattle.rules.proofs.Lists.{heads_to}

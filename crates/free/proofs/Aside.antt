@@ -4,9 +4,7 @@ use mathlib.Core.List.{List, [], ◌∷◌, ◌++◌}
 use Prim.Native.Nat.{ℕ, ◌≤◌}
 use native.Mathlib.Omega.{arith}
 use Rattle.rules.specs.Fixed.{min_size}
-use Rattle.rules.specs.Kinds.{addr}
 use Rattle.rules.specs.Holes.{end}
-use Rattle.rules.specs.Sound.{size}
 use Rattle.rules.specs.Free.{overlaps, eight_to_hole}
 use Rattle.rules.specs.declared.Hole.{Hole}
 use Rattle.rules.specs.Inner.{Rises, end_or}

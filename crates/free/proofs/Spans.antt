@@ -7,13 +7,13 @@ use native.Mathlib.Omega.{arith}
 use borrow.Author.Tests.{not-true, not-false, le-ltb, ne_eqb}
 use Rattle.rules.specs.Fixed.{min_size, grain}
 use Rattle.rules.specs.Tests.{any}
-use Rattle.rules.specs.Kinds.{addr, multiple_of}
+use Rattle.rules.specs.Kinds.{multiple_of}
 use Rattle.rules.specs.Holes.{end}
-use Rattle.rules.specs.Sound.{size, sound_holes}
+use Rattle.rules.specs.Sound.{sound_holes}
 use Rattle.rules.specs.Refusals.{refusal8}
 use Rattle.rules.specs.declared.Hole.{Hole}
 use Rattle.rules.specs.declared.Heap.{Heap}
-use Rattle.rules.specs.Inner.{Fair, behind, Rises, end_or}
+use Rattle.rules.specs.Inner.{Fair, Rises, end_or}
 use Rattle.rules.proofs.Cases.{iff, and_left, and_right, both, all_each, each_all, any_each, each_any}
 use Rattle.rules.proofs.Walk.{sound_sum}
 use Rattle.rules.proofs.Rises.{rises_le, rises_widen, rises_front, rises_back, sound_rises}

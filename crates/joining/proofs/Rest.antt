@@ -1,12 +1,12 @@
 -- The rest of a resized block's stretch, linked among the holes: its head is to be written, and the link to it, and these stand for the
 -- list that a resize leaves. Assumes nothing.
-use mathlib.Core.Path.{◌≡◌, refl, sym, ap, ◌∙◌}
+use mathlib.Core.Path.{◌≡◌, sym, ap, ◌∙◌}
 use mathlib.Core.List.{List, ◌++◌}
 use Prim.Native.Nat.{ℕ, ◌+◌, ◌≤◌}
 use native.Mathlib.Omega.{arith}
 use Rattle.rules.specs.Fixed.{min_size, addr_limit}
-use Rattle.rules.specs.Kinds.{plus, place_of, none}
-use Rattle.rules.specs.Holes.{end, first_of}
+use Rattle.rules.specs.Kinds.{plus, none}
+use Rattle.rules.specs.Holes.{first_of}
 use Rattle.rules.specs.Sound.{holes}
 use Rattle.rules.specs.Allocate.{remains}
 use Rattle.rules.specs.Resize.{stretch_end, resized}

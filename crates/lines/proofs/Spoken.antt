@@ -16,7 +16,7 @@ use Rattle.rules.specs.declared.Answer.TheVariants.{Listed}
 use Rattle.rules.specs.Fixed.{min_size}
 use Rattle.rules.specs.Sound.{sound_numbers, sound_holes, holes}
 use Rattle.rules.specs.Changes.{Report}
-use Rattle.rules.specs.Calls.{Call, opening, change, report, list, room, Outcome, refused, told, done, accepted}
+use Rattle.rules.specs.Calls.{Call, opening, change, report, list, Outcome, refused, told, done, accepted}
 use Rattle.rules.specs.Refusals.{tests}
 use Rattle.rules.specs.Answers.{refusal_numbers, answer_numbers}
 use Rattle.rules.specs.Outcome.{outcome, leaves, after, Rows, over, in_rows, leaves_rows}

@@ -1,7 +1,7 @@
 -- What `check` says of a heap's numbers and a length, test by test, and what a call comes to then. Assumes nothing.
-use mathlib.Core.Path.{◌≡◌, refl, sym, ◌∙◌}
+use mathlib.Core.Path.{◌≡◌, sym, ◌∙◌}
 use mathlib.Core.Bool.{true, false}
-use mathlib.Core.List.{List, [], ◌∷◌}
+use mathlib.Core.List.{List}
 use Prim.Native.Nat.{ℕ}
 use native.Mathlib.Omega.{arith}
 use lib.ListN.{length}
@@ -21,7 +21,6 @@ use Rattle.rules.proofs.Written.{fulfils_refused, fulfils_left}
 use Rattle.numbers.specs.declared.Checked.{Checked}
 use Rattle.numbers.specs.declared.Checked.TheVariants.{Fair, No}
 use Rattle.numbers.specs.Checks.{checked_of}
-use Rattle.numbers.specs.contracts.Checked as Verdict
 
 module _ (len : ℕ) (h : Heap) where
   pub checked_3 : h.bottom.0 ≡ 0 → No Unopened ≡ checked_of len h

@@ -1,7 +1,7 @@
 -- A request by what its tests come to: a refusal of the call that makes it, or all that the call leans on. Assumes nothing.
 use mathlib.Core.Path.{◌≡◌, refl, ◌∙◌}
 use mathlib.Core.Bool.{true, false, cond}
-use mathlib.Core.List.{List, [], ◌∷◌}
+use mathlib.Core.List.{List, ◌∷◌}
 use Prim.Native.Nat.{ℕ, ◌%◌, ◌^◌, ◌<◌}
 use native.Mathlib.Omega.{arith}
 use lib.ListN.{length}

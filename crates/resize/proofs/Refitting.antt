@@ -8,7 +8,7 @@ use Rattle.rules.specs.Fixed.{min_size}
 use Rattle.rules.specs.Tests.{any}
 use Rattle.rules.specs.Kinds.{plus}
 use Rattle.rules.specs.Holes.{hole}
-use Rattle.rules.specs.Sound.{gap, sound_holes, holes}
+use Rattle.rules.specs.Sound.{gap, holes}
 use Rattle.rules.specs.Resize.{stretch_end, resized}
 use Rattle.rules.specs.Calls.{refitted}
 use Rattle.rules.specs.Refusals.{refusal8}

@@ -21,10 +21,10 @@ use Rattle.rules.specs.Free.{touch, freed}
 use Rattle.rules.specs.Resize.{stretch_end, resized}
 use Rattle.rules.specs.Calls.{resize, renewed, refitted, accepted}
 use Rattle.rules.specs.Refusals.{refusal8, refusal10, unless}
-use Rattle.rules.specs.InWords.{Gap, end_of, Within, Vacant, StretchEnds, NoStretch}
+use Rattle.rules.specs.InWords.{Gap, Within, Vacant, StretchEnds, NoStretch}
 use Rattle.rules.specs.Behaviour.{ours}
-use Rattle.rules.specs.Statements.{Refitted, ResizeDoes, SameSizeGranted}
-use Rattle.rules.specs.Inner.{Fair, Ruled, Rises, behind}
+use Rattle.rules.specs.Statements.{ResizeDoes, SameSizeGranted}
+use Rattle.rules.specs.Inner.{Fair, Rises, behind}
 use Rattle.rules.proofs.Cases.{by_test, by_le, or_left}
 use Rattle.rules.proofs.Gaps.{gap_words, words_gap, gap_le}
 use Rattle.rules.proofs.Walk.{walks, floor_of, walks_head, walks_tail, sound_walk, sound_sum, walk_sound}

@@ -1,8 +1,7 @@
 -- A block that is resized, among the holes: the walk after it, what adds up, and where its stretch ends. Assumes nothing.
-use mathlib.Core.Path.{◌≡◌, refl, sym, ◌∙◌}
-use mathlib.Core.Bool.{true, cond}
+use mathlib.Core.Path.{◌≡◌, refl, ◌∙◌}
+use mathlib.Core.Bool.{true}
 use mathlib.Core.List.{List, [], ◌∷◌, ◌++◌, append-nil}
-use mathlib.Core.Logic.{inl, inr}
 use Prim.Native.Nat.{ℕ, ◌+◌, ◌%◌, ◌≤◌, ◌<◌}
 use native.Mathlib.Omega.{arith}
 use borrow.Author.Tests.{ltb-true, ltb-false, lt-ltb, le-ltb, eqb-true, eqb-false, eq-eqb, ne_eqb}
@@ -18,7 +17,7 @@ use Rattle.rules.specs.Resize.{stretch_end, rest_in_front, resized}
 use Rattle.rules.specs.InWords.{Gap}
 use Rattle.rules.specs.Inner.{Fair, Rises, behind}
 use Rattle.rules.proofs.Cases.{cases, by_test}
-use Rattle.rules.proofs.Gaps.{gap_le, gap_apart, eights_gap}
+use Rattle.rules.proofs.Gaps.{gap_apart, eights_gap}
 use Rattle.rules.proofs.Walk.{walks, floor_of, walks_head, walks_tail, walks_cons, ends_low}
 use Rattle.rules.proofs.Rises.{rises_le, walks_rises}
 use Rattle.rules.proofs.Freed.{Beyond}

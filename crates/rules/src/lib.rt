@@ -2,7 +2,6 @@
 // definitions, which every contract of the crates above cites.
 #![tactic(auto)]
 
-
 // The numbers that the paper fixes, as specs/Fixed.antt has them: the most bytes of an arena; 2^63,
 // what base + arena length is at most, and a rounded size with its alignment; the bytes of a head,
 // which are the least size of a hole; and what addresses and sizes are multiples of.

@@ -1,10 +1,9 @@
 -- What comes of hearing bytes: one byte more, and what the code keeps of each. Assumes nothing.
 use mathlib.Core.Path.{◌≡◌, refl, sym, ap, ◌∙◌}
-use mathlib.Core.Bool.{true, false}
 use mathlib.Core.List.{List, [], ◌∷◌, ◌++◌, append_assoc}
 use Prim.Native.Nat.{ℕ, suc, ◌+◌, ◌-◌, ◌≤◌, ◌<◌}
 use native.Mathlib.Omega.{arith}
-use lib.Dec.{eqb, ltb}
+use lib.Dec.{eqb}
 use lib.ListN.{length, take, drop, get_or, set, length-append, length-take, length-drop}
 use lib.Seq.{take_at, take-length, take-add, take-suc, take-suc-set, get_or-drop}
 use borrow.Rule.Slice.PartMut.{put_mid, post_of}

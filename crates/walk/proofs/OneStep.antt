@@ -1,8 +1,7 @@
 -- A step at a place: what it is, by the rules on the head there, and what it tells of them. Assumes nothing.
 use mathlib.Core.Path.{◌≡◌, refl, ◌∙◌}
-use mathlib.Core.Logic.{inl, inr}
 use mathlib.Core.Bool.{true, false}
-use mathlib.Core.List.{List, [], ◌∷◌}
+use mathlib.Core.List.{List}
 use Prim.Native.Nat.{ℕ, ◌+◌, ◌%◌, ◌≤◌}
 use native.Mathlib.Omega.{arith}
 use lib.Bits.{bit_or, bit_and, or_mod, or_add_and, and_le_l, and_le_r}

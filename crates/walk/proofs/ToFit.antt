@@ -32,7 +32,7 @@ use Rattle.walk.specs.declared.Step.{Step}
 use Rattle.walk.specs.declared.Step.TheVariants as step
 use Rattle.walk.specs.declared.Search.{Search}
 use Rattle.walk.specs.declared.Search.TheVariants as search
-use Rattle.walk.specs.Walk.{start_of, step_of, is_end, Stop, stopped, ended, broken, walked, last_place, last_floor, search_by, search_of}
+use Rattle.walk.specs.Walk.{start_of, step_of, is_end, Stop, stopped, ended, broken, last_place, last_floor, search_by, search_of}
 use Rattle.walk.proofs.Passed.{floor_some, total_more, Spaced, spaced_more}
 use Rattle.walk.proofs.Turn.{turn_place, all_halt, all_end, all_break}
 use Rattle.walk.proofs.Passed.{None, Says, said}

@@ -7,7 +7,7 @@ use native.Mathlib.Omega.{arith}
 use borrow.Author.Tests.{ltb-true, ltb-false, lt-ltb}
 use Rattle.rules.specs.Fixed.{min_size}
 use Rattle.rules.specs.Tests.{all}
-use Rattle.rules.specs.Kinds.{none, before}
+use Rattle.rules.specs.Kinds.{none}
 use Rattle.rules.specs.Holes as Holes
 use Rattle.rules.specs.Holes.{first_of}
 use Rattle.rules.specs.Sound.{holes}

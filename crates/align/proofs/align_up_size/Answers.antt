@@ -1,6 +1,5 @@
 -- `align::align_up_size` meets its contract: what rounds `size + (align - 1)` down rounds `size` up. Assumes nothing.
 use native.Mathlib.Omega.{arith}
-use borrow.Author.Rules.{rules}
 use Rattle.rules.proofs.Multiples.{below_above}
 use Rattle.rules.proofs.Powers.{power_pos}
 use Rattle.align.proofs.align_up_size.Goals as goal

@@ -1,5 +1,4 @@
 -- `allocate::allocate` meets its contract: what was decided is written. Assumes nothing.
-use borrow.Author.Rules.{rules}
 use Rattle.rules.proofs.Written.{is_written}
 use Rattle.allocate.proofs.allocate.Goals as goal
 

@@ -4,7 +4,7 @@ use borrow.Author.Rules.{rules}
 use Rattle.rules.specs.Calls.{allocate}
 use Rattle.rules.proofs.Calls.{allocate_on}
 use Rattle.rules.proofs.Written.{fulfils_left}
-use Rattle.request.proofs.Requests.{Requested, requested_no, requested}
+use Rattle.request.proofs.Requests.{requested_no, requested}
 use Rattle.allocate.proofs.decide.Goals as goal
 
 -- ---- what is known once the request has passed its tests

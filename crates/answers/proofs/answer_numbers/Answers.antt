@@ -1,5 +1,4 @@
 -- `answers::answer_numbers` meets its contract: each arm has the two values of its answer, a refusal its own numbers. Assumes nothing.
-use borrow.Author.Rules.{rules}
 use Rattle.rules.specs.Answers.{answer_numbers}
 use Rattle.answers.proofs.answer_numbers.Goals as goal
 

@@ -1,5 +1,4 @@
 -- `answers::refusal_numbers` meets its contract: each arm has the numbers that the paper gives its refusal. Assumes nothing.
-use borrow.Author.Rules.{rules}
 use Rattle.rules.specs.Answers.{refusal_numbers}
 use Rattle.answers.proofs.refusal_numbers.Goals as goal
 

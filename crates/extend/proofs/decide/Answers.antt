@@ -1,10 +1,9 @@
 -- `extend::decide` meets its contract: the tests in front refuse, or earn the bytes behind top what they ask. Assumes nothing.
 use mathlib.Core.Path.{refl}
-use borrow.Author.Rules.{rules}
 use Rattle.rules.specs.Calls.{extend}
 use Rattle.rules.proofs.Calls.{extend_on}
 use Rattle.rules.proofs.Written.{fulfils_left}
-use Rattle.numbers.proofs.Verdicts.{Tested, tested, tested_no}
+use Rattle.numbers.proofs.Verdicts.{tested, tested_no}
 use Rattle.extend.proofs.decide.Goals as goal
 
 -- ---- what is known once the numbers are checked, and once they keep their rules

@@ -1,5 +1,4 @@
 -- `extend::extend` meets its contract: what was decided is written. Assumes nothing.
-use borrow.Author.Rules.{rules}
 use Rattle.rules.proofs.Written.{is_written}
 use Rattle.extend.proofs.extend.Goals as goal
 

@@ -4,7 +4,7 @@ use borrow.Author.Rules.{rules}
 use Rattle.rules.specs.Calls.{free}
 use Rattle.rules.proofs.Calls.{free_on}
 use Rattle.rules.proofs.Written.{fulfils_left}
-use Rattle.request.proofs.Requests.{Requested, requested_no, requested}
+use Rattle.request.proofs.Requests.{requested_no, requested}
 use Rattle.free.proofs.decide.Goals as goal
 
 -- ---- what is known once the request has passed its tests

@@ -1,10 +1,6 @@
 -- `joining::insert` meets its contract, whether or not the hole before the span ends there. Assumes nothing.
-use mathlib.Core.Path.{◌≡◌, sym, ◌∙◌}
+use mathlib.Core.Path.{sym, ◌∙◌}
 use native.Mathlib.Omega.{arith}
-use borrow.Author.Rules.{rules}
-use borrow.Author.Tests.{not-true, not-false}
-use Rattle.rules.specs.Kinds.{none}
-use Rattle.joining.proofs.Between.{Bounds}
 use Rattle.joining.proofs.Inserted.{may_merge, may_end, bounds_at, ends_there, insert_apart, insert_joined}
 use Rattle.joining.proofs.insert.Goals as goal
 

@@ -1,5 +1,4 @@
 -- `joining::link` meets its contract: its two returns are the cases of the definition. Assumes nothing.
-use borrow.Author.Rules.{rules}
 use borrow.Author.Tests.{eq-eqb, ne_eqb}
 use Rattle.joining.specs.Span.{linked_to}
 use Rattle.joining.proofs.link.Goals as goal

@@ -1,8 +1,7 @@
 -- `joining::link_rest` meets its contract: what remains of the stretch, linked, is the list that a resize leaves. Assumes nothing.
 use native.Mathlib.Omega.{arith}
-use borrow.Author.Rules.{rules}
 use Rattle.rules.proofs.Gaps.{gap_le}
-use Rattle.joining.proofs.Rest.{Ends, ends, rest_relinked}
+use Rattle.joining.proofs.Rest.{ends, rest_relinked}
 use Rattle.joining.proofs.link_rest.Goals as goal
 
 -- ---- what is known from the start

@@ -1,6 +1,5 @@
 -- `joining::remains` meets its contract: its two returns are the cases of the definition. Assumes nothing.
 use mathlib.Core.Path.{sym}
-use borrow.Author.Rules.{rules}
 use Rattle.joining.proofs.Remainder.{remainder_none, remainder_some}
 use Rattle.joining.proofs.remains.Goals as goal
 

@@ -1,8 +1,7 @@
 -- `joining::try_merge_next` meets its contract: each return is a case of the merged head. Assumes nothing.
 use native.Mathlib.Omega.{arith}
-use borrow.Author.Rules.{rules}
 use borrow.Author.Tests.{eq-eqb, ne_eqb}
-use Rattle.joining.specs.Span.{MayMerge, merged_head}
+use Rattle.joining.specs.Span.{merged_head}
 use Rattle.joining.proofs.try_merge_next.Goals as goal
 
 pub returns-then-hole-eq-NONE : goal.returns-then-hole-eq-NONE
@@ -26,7 +25,7 @@ overflow_add-result c = let fits = (c.requires).sum c.if-hole-eq-NONE.false in
 pub returns : goal.returns
 unfolding merged_head
 returns c = rw (
-      ne_eqb _ _ c.if-hole-eq-NONE.false,
-      eq-eqb _ _ (rw c.addr_of.ensures at c.if-span-size.false),
-      c.read_head-head.ensures,
-    )
+  ne_eqb _ _ c.if-hole-eq-NONE.false,
+  eq-eqb _ _ (rw c.addr_of.ensures at c.if-span-size.false),
+  c.read_head-head.ensures,
+)

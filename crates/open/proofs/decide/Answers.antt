@@ -1,6 +1,5 @@
 -- `open::decide` meets its contract: 2, then 1, else the heap that `new` makes and the head of its one hole. Assumes nothing.
 use mathlib.Core.Path.{sym, ◌∙◌}
-use borrow.Author.Rules.{rules}
 use Rattle.open.proofs.Begun.{opened_rises, begun_2, begun_1, begun}
 use Rattle.open.proofs.decide.Goals as goal
 

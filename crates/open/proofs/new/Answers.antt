@@ -1,13 +1,9 @@
 -- `open::new` meets its contract: what it rounds base up to is bottom. Assumes nothing.
-use mathlib.Core.Path.{◌≡◌}
 use native.Mathlib.Omega.{arith}
-use borrow.Author.Rules.{rules}
-use Rattle.rules.specs.Fixed.{grain}
-use Rattle.rules.specs.Kinds.{raised}
 use Rattle.rules.specs.Holes.{first_of}
 use Rattle.rules.specs.Calls.{opened}
 use Rattle.rules.proofs.Powers.{grain_power}
-use Rattle.numbers.proofs.Refused.{Openable, may_open}
+use Rattle.numbers.proofs.Refused.{may_open}
 use Rattle.open.proofs.Begun.{is_bottom}
 use Rattle.open.proofs.new.Goals as goal
 

@@ -1,9 +1,5 @@
 -- `open::open` meets its contract: what was decided for an arena of this length is written. Assumes nothing.
 use mathlib.Core.Path.{sym}
-use borrow.Author.Rules.{rules}
-use Rattle.rules.specs.Calls.{opening}
-use Rattle.rules.specs.Outcome.{After, after}
-use Rattle.rules.specs.Inner.{Fulfils}
 use Rattle.rules.proofs.Written.{is_written}
 use Rattle.open.proofs.open.Goals as goal
 

@@ -1,10 +1,9 @@
 -- `reports::list` meets its contract: what its tests and its pass say is the answer, and `fill` fills the rows. Assumes nothing.
 use mathlib.Core.Path.{refl, sym, ◌∙◌}
 use native.Mathlib.Omega.{arith}
-use borrow.Author.Rules.{rules}
 use Rattle.rules.specs.Calls.{list}
 use Rattle.rules.proofs.Calls.{answer_refused, answer_told, rows_refused, rows_told}
-use Rattle.numbers.proofs.Verdicts.{Tested, tested}
+use Rattle.numbers.proofs.Verdicts.{tested}
 use Rattle.reports.proofs.Gathered.{survey_says, report_no, list_broken, list_told, used_fits}
 use Rattle.reports.proofs.list.Goals as goal
 

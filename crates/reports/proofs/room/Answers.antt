@@ -6,7 +6,7 @@ use borrow.Author.Rules.{rules}
 use Rattle.rules.specs.Fixed.{min_size}
 use Rattle.rules.specs.Calls.{room}
 use Rattle.rules.proofs.Calls.{answer_refused, answer_told}
-use Rattle.request.proofs.Requests.{Requested, requested_no, requested}
+use Rattle.request.proofs.Requests.{requested_no, requested}
 use Rattle.reports.proofs.Gathered.{survey_says, room_broken, room_told}
 use Rattle.reports.proofs.room.Goals as goal
 

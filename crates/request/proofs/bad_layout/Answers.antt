@@ -1,6 +1,5 @@
 -- `request::bad_layout` meets its contract: the walk decides between the two refusals. Assumes nothing.
 use mathlib.Core.Path.{sym, ◌∙◌}
-use borrow.Author.Rules.{rules}
 use Rattle.request.proofs.bad_layout.Goals as goal
 
 pub returns-then-is_sound : goal.returns-then-is_sound

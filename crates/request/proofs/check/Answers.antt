@@ -1,14 +1,12 @@
 -- `request::check` meets its contract: the numbers, then the layout, decide. Assumes nothing.
 use mathlib.Core.Path.{◌≡◌, sym, ◌∙◌}
-use borrow.Author.Rules.{rules}
 use mathlib.Core.List.{List}
 use Prim.Native.Nat.{ℕ}
 use lib.ListN.{length}
 use Rattle.rules.specs.declared.Heap.{Heap}
 use Rattle.numbers.specs.declared.Checked.{Checked}
 use Rattle.numbers.specs.Checks.{checked_of}
-use Rattle.numbers.specs.declared.Checked.TheVariants as checked
-use Rattle.numbers.proofs.Verdicts.{Tested, tested}
+use Rattle.numbers.proofs.Verdicts.{tested}
 use Rattle.request.specs.Requested.{by_layout, by_numbers}
 use Rattle.request.proofs.check.Goals as goal
 

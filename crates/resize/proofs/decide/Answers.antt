@@ -1,13 +1,11 @@
 -- `resize::decide` meets its contract: either layout is refused, or both earn the rest what it asks. Assumes nothing.
-use mathlib.Core.Path.{◌≡◌, refl, sym, ◌∙◌}
+use mathlib.Core.Path.{refl, sym, ◌∙◌}
 use borrow.Author.Rules.{rules}
 use Rattle.rules.specs.Calls.{resize}
-use Rattle.rules.specs.Refusals.{layout_of}
 use Rattle.rules.specs.declared.Refusal.TheVariants.{BadLayout}
-use Rattle.rules.specs.declared.Layout.TheVariants.{Rounded}
 use Rattle.rules.proofs.Calls.{resize_6, resize_on}
 use Rattle.rules.proofs.Written.{fulfils_left, fulfils_later}
-use Rattle.request.proofs.Requests.{Requested, requested_no, requested, layout_asked}
+use Rattle.request.proofs.Requests.{requested_no, requested, layout_asked}
 use Rattle.resize.proofs.decide.Goals as goal
 
 -- ---- what is known once the old layout has passed its tests, and once the new one is rounded
@@ -26,13 +24,12 @@ returns-in_default c = let q = (requested c.args.h c.args.arena.now c.args.old c
     bad))
 
 pub refit-requires : goal.refit-requires
-refit-requires c = let q = (requested c.args.h c.args.arena.now c.args.old c.args.align (search rules) (sym c.check-asked.ensures.0 ∙ c.in-Of.is)) in
-    (
-      record { lent = q.lent; bytes = c.check-asked.ensures.1 },
-      q.asked,
-      q.multiple,
-      layout_asked c.args.new c.args.align _ (search rules) ((sym c.align_layout-layout.ensures ∙ c.in-Rounded.is)),
-    )
+refit-requires c = let q = (requested c.args.h c.args.arena.now c.args.old c.args.align (search rules) (sym c.check-asked.ensures.0 ∙ c.in-Of.is)) in (
+  record { lent = q.lent; bytes = c.check-asked.ensures.1 },
+  q.asked,
+  q.multiple,
+  layout_asked c.args.new c.args.align _ (search rules) ((sym c.align_layout-layout.ensures ∙ c.in-Rounded.is)),
+)
 
 pub returns-in-No : goal.returns-in-No
 returns-in-No c = rw c.refuse.ensures

@@ -1,5 +1,4 @@
 -- `resize::resize` meets its contract: what was decided is written. Assumes nothing.
-use borrow.Author.Rules.{rules}
 use Rattle.rules.proofs.Written.{is_written}
 use Rattle.resize.proofs.resize.Goals as goal
 

@@ -1,11 +1,9 @@
 -- `talk::hear` meets its contract. Assumes nothing.
 use mathlib.Core.Path.{◌≡◌, sym, ap, ◌∙◌}
 use mathlib.Core.Logic.{◌⊎◌, inl, inr}
-use Prim.Native.Nat.{ℕ, ◌-◌, ◌≤◌, ◌<◌}
+use Prim.Native.Nat.{ℕ, ◌≤◌, ◌<◌}
 use native.Mathlib.Omega.{arith}
-use borrow.Author.Rules.{rules}
-use borrow.Author.Tests.{leb-false}
-use lib.ListN.{length, get_or}
+use lib.ListN.{get_or}
 use Rattle.lines.specs.Wire.{longest}
 use Rattle.talk.specs.Hearing.{Come, come, answered, keeping, heard, part}
 use Rattle.talk.proofs.Hearing.{heard_none, heard_next, hearing_lf, hearing_other, kept_by}

@@ -1,16 +1,8 @@
 -- `allocate::first_fit::allocate_first_fit` meets its contract: the search, and the walk behind it, decide. Assumes nothing.
-use mathlib.Core.Path.{◌≡◌, sym, ◌∙◌}
-use mathlib.Core.Bool.{Bool}
+use mathlib.Core.Path.{sym, ◌∙◌}
 use native.Mathlib.Omega.{arith}
-use borrow.Author.Rules.{rules}
-use Prim.Native.Nat.{◌≤◌}
-use Rattle.rules.specs.Fixed.{min_size}
-use Rattle.rules.specs.Holes.{end}
-use Rattle.rules.specs.Sound.{sound_holes, holes}
+use Rattle.rules.specs.Sound.{holes}
 use Rattle.rules.proofs.Written.{fulfils_sound, fulfils_broken}
-use Rattle.walk.specs.Walk.{search_of}
-use Rattle.walk.specs.declared.Fit.{Fit}
-use Rattle.walk.specs.declared.Search.TheVariants as search
 use Rattle.allocate.specs.Granted.{takes}
 use Rattle.allocate.proofs.Searched.{inside, asks, goes_on, no_fit_is}
 use Rattle.allocate.proofs.first_fit.allocate_first_fit.Goals as goal

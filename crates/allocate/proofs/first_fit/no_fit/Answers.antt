@@ -1,6 +1,5 @@
 -- `allocate::first_fit::no_fit` meets its contract: refusal 7 only where the sizes add up, else 5. Assumes nothing.
 use mathlib.Core.Path.{sym, ◌∙◌}
-use borrow.Author.Rules.{rules}
 use Rattle.allocate.specs.Granted.{no_fit}
 use Rattle.allocate.proofs.Searched.{not_full}
 use Rattle.allocate.proofs.first_fit.no_fit.Goals as goal

@@ -1,6 +1,5 @@
 -- `allocate::split::relink` meets its contract: its two returns are the cases of the definition. Assumes nothing.
 use mathlib.Core.Path.{◌∙◌}
-use borrow.Author.Rules.{rules}
 use borrow.Author.Tests.{eq-eqb, ne_eqb}
 use Rattle.allocate.specs.Granted.{split_to}
 use Rattle.allocate.proofs.split.relink.Goals as goal

@@ -1,10 +1,7 @@
 -- `allocate::split::split_current` meets its contract: the pieces of the hole, linked, are the new list. Assumes nothing.
 use native.Mathlib.Omega.{arith}
-use borrow.Author.Rules.{rules}
-use lib.ListN.{length}
-use Rattle.rules.specs.Sound.{holes}
-use Rattle.walk.proofs.ToFit.{Fits, fit_at}
-use Rattle.allocate.proofs.Pieces.{Room, room, split_is}
+use Rattle.walk.proofs.ToFit.{fit_at}
+use Rattle.allocate.proofs.Pieces.{room, split_is}
 use Rattle.allocate.proofs.split.split_current.Goals as goal
 
 -- ---- what is known from the start, and once the block's address is known

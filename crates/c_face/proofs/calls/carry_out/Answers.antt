@@ -1,5 +1,4 @@
 -- `c_face::calls::carry_out` meets its contract: the words, then the heads. Assumes nothing.
-use borrow.Author.Rules.{rules}
 use Rattle.c_face.proofs.calls.carry_out.Goals as goal
 
 pub returns : goal.returns

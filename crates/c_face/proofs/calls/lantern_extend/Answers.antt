@@ -1,5 +1,4 @@
 -- `c_face::calls::lantern_extend` meets its contract: it is `extend::decide` on the heap that the words say, carried out. Assumes nothing.
-use borrow.Author.Rules.{rules}
 use Rattle.rules.specs.Calls.{extend}
 use Rattle.c_face.proofs.Loaded.{shown}
 use Rattle.c_face.proofs.calls.lantern_extend.Goals as goal

@@ -1,5 +1,4 @@
 -- `c_face::calls::lantern_free` meets its contract: it is `free::decide` on the heap that the words say, carried out. Assumes nothing.
-use borrow.Author.Rules.{rules}
 use Rattle.rules.specs.Kinds.{addr}
 use Rattle.rules.specs.Calls.{free}
 use Rattle.c_face.proofs.Loaded.{shown}

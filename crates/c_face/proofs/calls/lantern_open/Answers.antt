@@ -1,6 +1,5 @@
 -- `c_face::calls::lantern_open` meets its contract: it is `open::decide` on the heap that the words say, carried out. Assumes nothing.
 use mathlib.Core.Path.{sym}
-use borrow.Author.Rules.{rules}
 use Rattle.rules.specs.Kinds.{addr}
 use Rattle.rules.specs.Calls.{opening}
 use Rattle.c_face.proofs.Loaded.{shown}

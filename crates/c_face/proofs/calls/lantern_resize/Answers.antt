@@ -1,5 +1,4 @@
 -- `c_face::calls::lantern_resize` meets its contract: it is `resize::decide` on the heap that the words say, carried out. Assumes nothing.
-use borrow.Author.Rules.{rules}
 use Rattle.rules.specs.Kinds.{addr}
 use Rattle.rules.specs.Calls.{resize}
 use Rattle.c_face.proofs.Loaded.{shown}

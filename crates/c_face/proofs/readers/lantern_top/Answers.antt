@@ -1,6 +1,5 @@
 -- `c_face::readers::lantern_top` meets its contract: the address that is read, as a number. Assumes nothing.
 use mathlib.Core.Path.{ap}
-use borrow.Author.Rules.{rules}
 use Rattle.rules.specs.Kinds.{number}
 use Rattle.c_face.proofs.readers.lantern_top.Goals as goal
 

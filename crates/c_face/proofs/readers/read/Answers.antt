@@ -1,5 +1,4 @@
 -- `c_face::readers::read` meets its contract: it is `numbers::read` on the heap that the words say. Assumes nothing.
-use borrow.Author.Rules.{rules}
 use Rattle.c_face.proofs.readers.read.Goals as goal
 
 pub returns : goal.returns

@@ -1,5 +1,4 @@
 -- `c_face::report::lantern_list` meets its contract: it is `reports::list` on the heap that the words say, and on the same rows. Assumes nothing.
-use borrow.Author.Rules.{rules}
 use Rattle.rules.specs.Outcome.{rows}
 use Rattle.c_face.proofs.Loaded.{listed}
 use Rattle.c_face.proofs.report.lantern_list.Goals as goal

@@ -1,5 +1,4 @@
 -- `c_face::report::lantern_room` meets its contract: it is `reports::room` on the heap that the words say. Assumes nothing.
-use borrow.Author.Rules.{rules}
 use Rattle.rules.specs.Calls.{room}
 use Rattle.c_face.proofs.Loaded.{reported}
 use Rattle.c_face.proofs.report.lantern_room.Goals as goal

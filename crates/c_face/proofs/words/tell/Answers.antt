@@ -1,5 +1,4 @@
 -- `c_face::words::tell` meets its contract: the number is given and the two values are written. Assumes nothing.
-use borrow.Author.Rules.{rules}
 use Rattle.c_face.proofs.words.tell.Goals as goal
 
 pub returns : goal.returns

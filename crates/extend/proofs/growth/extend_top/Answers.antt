@@ -1,15 +1,11 @@
 -- `extend::growth::extend_top` meets its contract: the search from top and the sum decide the rules on the holes, the bytes that the
 -- arena has left refusal 9. Assumes nothing.
-use mathlib.Core.Path.{◌≡◌, sym, ◌∙◌}
-use mathlib.Core.Bool.{Bool, true}
+use mathlib.Core.Path.{sym, ◌∙◌}
 use native.Mathlib.Omega.{arith}
-use borrow.Author.Rules.{rules}
-use borrow.Author.Tests.{not-true, not-false}
-use Rattle.rules.specs.Sound.{sound_holes, holes}
+use Rattle.rules.specs.Sound.{holes}
 use Rattle.rules.specs.Inner.{extending}
 use Rattle.rules.proofs.Written.{fulfils_broken}
-use Rattle.walk.specs.declared.Near.{Near}
-use Rattle.joining.proofs.Neighbours.{near_broken, Sought, seeks}
+use Rattle.joining.proofs.Neighbours.{near_broken, seeks}
 use Rattle.extend.proofs.Extending.{top_sound, top_free, Fits, past_is, gathers_is, grows_is}
 use Rattle.extend.proofs.growth.extend_top.Goals as goal
 

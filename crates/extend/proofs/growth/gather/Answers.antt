@@ -1,5 +1,4 @@
 -- `extend::growth::gather` meets its contract: nothing is written. Assumes nothing.
-use borrow.Author.Rules.{rules}
 use Rattle.extend.proofs.growth.gather.Goals as goal
 
 pub returns : goal.returns

@@ -1,5 +1,4 @@
 -- `extend::growth::grow` meets its contract: the span at top is inserted, and top rises by it. Assumes nothing.
-use borrow.Author.Rules.{rules}
 use Rattle.extend.proofs.Extending.{grown_is}
 use Rattle.extend.proofs.growth.grow.Goals as goal
 

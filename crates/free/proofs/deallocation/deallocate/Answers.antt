@@ -1,15 +1,10 @@
 -- `free::deallocation::deallocate` meets its contract: the walk decides 5, the neighbours 8, and the span is inserted. Assumes nothing.
-use mathlib.Core.Path.{◌≡◌, sym, ◌∙◌}
-use mathlib.Core.Bool.{true}
-use borrow.Author.Rules.{rules}
-use borrow.Author.Tests.{not-true, not-false}
-use Rattle.rules.specs.Holes.{hole}
-use Rattle.rules.specs.Sound.{sound_holes, holes}
+use mathlib.Core.Path.{sym, ◌∙◌}
+use Rattle.rules.specs.Sound.{holes}
 use Rattle.rules.proofs.Written.{fulfils_broken}
-use Rattle.walk.specs.declared.Near.{Near}
-use Rattle.free.specs.SpanTests.{may_free, frees}
-use Rattle.joining.proofs.Neighbours.{near_broken, Sought, seeks, starts, goes_on}
-use Rattle.free.proofs.Freeing.{Known, span_around, span_refused, span_free, span_used, span_freed}
+use Rattle.free.specs.SpanTests.{frees}
+use Rattle.joining.proofs.Neighbours.{near_broken, seeks, starts, goes_on}
+use Rattle.free.proofs.Freeing.{span_around, span_refused, span_free, span_used, span_freed}
 use Rattle.free.proofs.deallocation.deallocate.Goals as goal
 
 -- ---- what is known once the search has found neighbours, once the walk behind them adds up, and once the span is tested
@@ -43,9 +38,9 @@ returns-then-not-may_free c = rw c.refuse-then-not-may_free.ensures
 
 pub insert-list-requires : goal.insert-list-requires
 insert-list-requires c = (
-      record { ready = c.requires.0; sound = ((goes_on (seeks c.requires.0.lent.fair c.neighbours-spot.ensures c.in-Between.is) c.walk.ensures ∙ sym c.adds_up.ensures) ∙ c.if-not-adds_up.false) },
-      span_free ((record { sought = (seeks c.requires.0.lent.fair c.neighbours-spot.ensures c.in-Between.is); sound = (goes_on ((seeks c.requires.0.lent.fair c.neighbours-spot.ensures c.in-Between.is)) c.walk.ensures ∙ sym c.adds_up.ensures) ∙ c.if-not-adds_up.false })) c.args.size c.args.align c.requires.1.least ((sym c.may_free.ensures ∙ c.if-not-may_free.false)),
-    )
+  record { ready = c.requires.0; sound = ((goes_on (seeks c.requires.0.lent.fair c.neighbours-spot.ensures c.in-Between.is) c.walk.ensures ∙ sym c.adds_up.ensures) ∙ c.if-not-adds_up.false) },
+  span_free ((record { sought = (seeks c.requires.0.lent.fair c.neighbours-spot.ensures c.in-Between.is); sound = (goes_on ((seeks c.requires.0.lent.fair c.neighbours-spot.ensures c.in-Between.is)) c.walk.ensures ∙ sym c.adds_up.ensures) ∙ c.if-not-adds_up.false })) c.args.size c.args.align c.requires.1.least ((sym c.may_free.ensures ∙ c.if-not-may_free.false)),
+)
 
 pub overflow_sub-used : goal.overflow_sub-used
 overflow_sub-used c = span_used ((record { sought = (seeks c.requires.0.lent.fair c.neighbours-spot.ensures c.in-Between.is); sound = (goes_on ((seeks c.requires.0.lent.fair c.neighbours-spot.ensures c.in-Between.is)) c.walk.ensures ∙ sym c.adds_up.ensures) ∙ c.if-not-adds_up.false })) c.args.size c.args.align c.requires.1.least ((sym c.may_free.ensures ∙ c.if-not-may_free.false))

@@ -2,8 +2,6 @@
 use mathlib.Core.Path.{◌≡◌, sym, ◌∙◌}
 use mathlib.Core.Bool.{true}
 use native.Mathlib.Omega.{arith}
-use borrow.Author.Rules.{rules}
-use borrow.Author.Tests.{not-true, not-false}
 use Rattle.free.proofs.Gaps.{keeps_before, before_none, before_gap, between_low, between_last, between_from}
 use Rattle.free.proofs.span.between.Goals as goal
 use Rattle.free.proofs.span.between.Goals.{then-cursor+else-not-keeps_gap, else-cursor}
@@ -23,9 +21,9 @@ pub returns-then-hole : goal.returns-then-hole
 returns-then-hole c =
     let a = c.args in
     let b : keeps_before a.near a.span ≡ true = elim c.if-cursor.branch [
-        | then-cursor+else-not-keeps_gap w ↦ before_gap a.h a.near a.span (sym w.keeps_gap.ensures ∙ w.if-not-keeps_gap.false)
-        | else-cursor w ↦ before_none a.h a.near a.span w.if-cursor.false
-      ] in
+      | then-cursor+else-not-keeps_gap w ↦ before_gap a.h a.near a.span (sym w.keeps_gap.ensures ∙ w.if-not-keeps_gap.false)
+      | else-cursor w ↦ before_none a.h a.near a.span w.if-cursor.false
+    ] in
     sym (between_last a.h a.near a.span b c.if-hole.true)
 
 pub addr_of-requires : goal.addr_of-requires
@@ -35,7 +33,7 @@ pub returns : goal.returns
 returns c =
     let a = c.args in
     let b : keeps_before a.near a.span ≡ true = elim c.if-cursor.branch [
-        | then-cursor+else-not-keeps_gap w ↦ before_gap a.h a.near a.span (sym w.keeps_gap.ensures ∙ w.if-not-keeps_gap.false)
-        | else-cursor w ↦ before_none a.h a.near a.span w.if-cursor.false
-      ] in
+      | then-cursor+else-not-keeps_gap w ↦ before_gap a.h a.near a.span (sym w.keeps_gap.ensures ∙ w.if-not-keeps_gap.false)
+      | else-cursor w ↦ before_none a.h a.near a.span w.if-cursor.false
+    ] in
     c.keeps_gap-2.ensures ∙ rw c.addr_of.ensures (sym (between_from a.h a.near a.span b c.if-hole.false))

@@ -1,7 +1,6 @@
 -- `free::span::inside` meets its contract: a span that starts or ends behind top fails the last test. Assumes nothing.
 use mathlib.Core.Path.{sym, ◌∙◌}
 use native.Mathlib.Omega.{arith}
-use borrow.Author.Rules.{rules}
 use Rattle.free.proofs.Gaps.{inside_past, inside_low, inside_from}
 use Rattle.free.proofs.span.inside.Goals as goal
 

@@ -1,6 +1,5 @@
 -- `free::span::may_free` meets its contract, test by test. Assumes nothing.
 use mathlib.Core.Path.{sym, ◌∙◌}
-use borrow.Author.Rules.{rules}
 use Rattle.free.proofs.Gaps.{inside_end, odd_refused, unaligned_refused, outside_refused, inside_between}
 use Rattle.free.proofs.span.may_free.Goals as goal
 

@@ -1,6 +1,5 @@
 -- `hole::reads::join_bytes` meets its contract: the bytes stand in digits that no two share, so `|` adds them. Assumes nothing.
 use native.Mathlib.Omega.{arith}
-use borrow.Author.Rules.{rules}
 use Rattle.hole.proofs.Eight.{by_or}
 use Rattle.hole.proofs.reads.join_bytes.Goals as goal
 

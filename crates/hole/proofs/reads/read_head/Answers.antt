@@ -1,5 +1,4 @@
 -- `hole::reads::read_head` meets its contract: a head is two words. Assumes nothing.
-use borrow.Author.Rules.{rules}
 use Rattle.rules.specs.Holes.{head_at}
 use Rattle.hole.proofs.reads.read_head.Goals as goal
 

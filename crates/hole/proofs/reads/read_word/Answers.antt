@@ -1,5 +1,4 @@
 -- `hole::reads::read_word` meets its contract: the eight indices are those of the word. Assumes nothing.
-use borrow.Author.Rules.{rules}
 use Rattle.hole.proofs.Eight.{by_index}
 use Rattle.hole.proofs.reads.read_word.Goals as goal
 

@@ -1,5 +1,4 @@
 -- `hole::writes::make_hole` meets its contract: a head is two words, written one after the other. Assumes nothing.
-use borrow.Author.Rules.{rules}
 use Rattle.rules.specs.Holes.{put_head}
 use Rattle.hole.proofs.writes.make_hole.Goals as goal
 

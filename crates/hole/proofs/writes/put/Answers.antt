@@ -1,6 +1,5 @@
 -- `hole::writes::put` meets its contract: at none nothing is written. Assumes nothing.
 use mathlib.Core.Path.{◌∙◌}
-use borrow.Author.Rules.{rules}
 use borrow.Author.Tests.{eq-eqb, ne_eqb}
 use Rattle.rules.specs.Inner as Inner
 use Rattle.hole.proofs.writes.put.Goals as goal

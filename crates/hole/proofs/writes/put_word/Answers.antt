@@ -2,9 +2,9 @@
 -- Assumes nothing.
 use mathlib.Core.Path.{◌≡◌, refl, ◌∙◌}
 use mathlib.Core.List.{List}
-use Prim.Native.Nat.{ℕ, suc, ◌+◌, ◌-◌, ◌/◌, ◌%◌, ◌≤◌, ◌<◌}
+use Prim.Native.Nat.{ℕ, suc, ◌+◌, ◌-◌, ◌/◌, ◌%◌, ◌<◌}
 use native.Mathlib.Omega.{arith}
-use lib.ListN.{length, set, length-set}
+use lib.ListN.{set, length-set}
 use Rattle.rules.specs.Words.{store}
 use Rattle.hole.proofs.writes.put_word.Goals as goal
 
@@ -25,10 +25,10 @@ loop-left-init c = (refl, omega arith, refl)
 
 pub loop-left-preserved : goal.loop-left-preserved
 loop-left-preserved c = let s = c.loop-left in (
-      step s.left s.m s.at s.rest (omega arith) ∙ s.invariant.0,
-      simp length-set (omega arith),
-      simp length-set (omega arith),
-    )
+  step s.left s.m s.at s.rest (omega arith) ∙ s.invariant.0,
+  simp length-set (omega arith),
+  simp length-set (omega arith),
+)
 
 pub returns : goal.returns
 returns c = let s = c.loop-left in

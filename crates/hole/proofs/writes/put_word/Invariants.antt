@@ -1,10 +1,8 @@
 -- `hole::writes::put_word` meets its contract: what is left to write, written into the bytes as they are, always gives the bytes wanted.
 -- Assumes nothing.
-use mathlib.Core.Path.{◌≡◌, refl, ◌∙◌}
-use mathlib.Core.List.{List}
-use Prim.Native.Nat.{ℕ, suc, ◌+◌, ◌-◌, ◌/◌, ◌%◌, ◌≤◌, ◌<◌}
-use native.Mathlib.Omega.{arith}
-use lib.ListN.{length, set, length-set}
+use mathlib.Core.Path.{◌≡◌}
+use Prim.Native.Nat.{◌+◌, ◌≤◌}
+use lib.ListN.{length}
 use Rattle.rules.specs.Words.{store}
 use Rattle.hole.proofs.writes.put_word.Given as goal
 

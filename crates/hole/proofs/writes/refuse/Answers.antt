@@ -1,5 +1,4 @@
 -- `hole::writes::refuse` meets its contract: both heads are nothing. Assumes nothing.
-use borrow.Author.Rules.{rules}
 use Rattle.hole.proofs.writes.refuse.Goals as goal
 
 pub returns : goal.returns

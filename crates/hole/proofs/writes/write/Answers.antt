@@ -1,6 +1,5 @@
 -- `hole::writes::write` meets its contract: one head after the other, and the arena keeps its length. Assumes nothing.
 use mathlib.Core.Path.{refl, ◌∙◌}
-use borrow.Author.Rules.{rules}
 use Rattle.rules.specs.Inner.{written}
 use Rattle.rules.proofs.Written.{put_length}
 use Rattle.hole.proofs.writes.write.Goals as goal

@@ -1,10 +1,9 @@
 -- `lines::answer::answer_line` meets its contract: a frame is a call, and what the call prints and leaves is what the line comes to.
 -- Assumes nothing.
-use mathlib.Core.Path.{◌≡◌, refl, sym, ap, ◌∙◌}
+use mathlib.Core.Path.{refl, sym, ap, ◌∙◌}
 use Rattle.rules.specs.Changes.{Report}
 use Rattle.rules.specs.Calls.{opening, allocate, free, resize, extend, room}
-use Rattle.lines.specs.Wire.{reply, replied}
-use Rattle.lines.specs.declared.reading.Frame.{Frame}
+use Rattle.lines.specs.Wire.{reply}
 use Rattle.lines.proofs.Placed.{line_front}
 use Rattle.lines.proofs.Spoken.{report_stays}
 use Rattle.lines.proofs.Answered.{replied_line, replied_list}

@@ -1,18 +1,16 @@
 -- `lines::answer::tell_list` meets its contract: it prints the list's line and a line for each hole that the rows hold. Assumes nothing.
 use mathlib.Core.Path.{◌≡◌, refl}
 use mathlib.Core.List.{List}
-use Prim.Native.Nat.{ℕ, ◌≤◌}
+use Prim.Native.Nat.{ℕ}
 use native.Mathlib.Omega.{arith}
-use lib.ListN.{length, take, length-replicate}
+use lib.ListN.{take, length-replicate}
 use Rattle.rules.specs.declared.Answer.{Answer}
-use Rattle.rules.specs.Calls.{list}
 use Rattle.rules.specs.Answers.{answer_numbers}
-use Rattle.rules.specs.Outcome.{after}
 use Rattle.answers.specs.Numbered.{told}
 use Rattle.answers.specs.declared.Told.{Told}
 use Rattle.lines.specs.Lines.{line}
 use Rattle.lines.specs.Printed.{placed}
-use Rattle.lines.specs.Wire.{numbers_line, arena_bytes, most_holes}
+use Rattle.lines.specs.Wire.{numbers_line, most_holes}
 use Rattle.lines.proofs.Placed.{line_front}
 use Rattle.lines.proofs.Listed.{listed_few, list_printed}
 use borrow.Author.Rules.{rules}

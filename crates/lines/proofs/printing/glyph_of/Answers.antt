@@ -2,7 +2,6 @@
 use native.Mathlib.Omega.{arith}
 use borrow.Author.Tests.{lt-ltb, le-ltb}
 use Rattle.lines.specs.Lines.{glyph}
-use borrow.Author.Rules.{rules}
 use Rattle.lines.proofs.printing.glyph_of.Goals as goal
 
 pub returns-then-d-lt10 : goal.returns-then-d-lt10

@@ -1,11 +1,8 @@
 -- `lines::printing::put_hex` meets its contract: the digits left to write, written into the bytes as they are, always give the bytes wanted.
 -- Assumes nothing.
-use mathlib.Core.Path.{◌≡◌, refl, sym, ◌∙◌}
-use Prim.Native.Nat.{◌+◌, ◌≤◌}
+use mathlib.Core.Path.{refl, sym, ◌∙◌}
 use native.Mathlib.Omega.{arith}
-use lib.ListN.{length, length-set}
-use Rattle.lines.specs.Lines.{hex}
-use Rattle.lines.specs.Printed.{placed}
+use lib.ListN.{length-set}
 use Rattle.lines.proofs.Placed.{hex_on, hex_off}
 use borrow.Author.Rules.{rules}
 use Rattle.lines.proofs.printing.put_hex.Goals as goal

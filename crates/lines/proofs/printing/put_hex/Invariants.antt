@@ -1,13 +1,10 @@
 -- `lines::printing::put_hex` meets its contract: the digits left to write, written into the bytes as they are, always give the bytes wanted.
 -- Assumes nothing.
-use mathlib.Core.Path.{◌≡◌, refl, sym, ◌∙◌}
+use mathlib.Core.Path.{◌≡◌}
 use Prim.Native.Nat.{◌+◌, ◌≤◌}
-use native.Mathlib.Omega.{arith}
-use lib.ListN.{length, length-set}
+use lib.ListN.{length}
 use Rattle.lines.specs.Lines.{hex}
 use Rattle.lines.specs.Printed.{placed}
-use Rattle.lines.proofs.Placed.{hex_on, hex_off}
-use borrow.Author.Rules.{rules}
 use Rattle.lines.proofs.printing.put_hex.Given as goal
 
 abbrev pub invariant-loop-left : goal.invariant-loop-left

@@ -1,14 +1,9 @@
 -- `lines::printing::put_holes` meets its contract: the lines left to write, written into the bytes as they are, always give the bytes wanted.
 -- Assumes nothing.
-use mathlib.Core.Path.{◌≡◌, refl, sym, ◌∙◌}
+use mathlib.Core.Path.{◌≡◌}
 use Prim.Native.Nat.{◌+◌, ◌-◌, ◌*◌, ◌≤◌}
-use native.Mathlib.Omega.{arith}
-use lib.ListN.{length, take, drop, get_or}
-use Rattle.lines.specs.Lines.{line}
+use lib.ListN.{length, take, drop}
 use Rattle.lines.specs.Printed.{placed, row_lines}
-use Rattle.lines.proofs.Placed.{placed_length, line_length}
-use Rattle.lines.proofs.FromRows.{row_on, row_off}
-use borrow.Author.Rules.{rules}
 use Rattle.lines.proofs.printing.put_holes.Given as goal
 
 abbrev pub invariant-loop-i : goal.invariant-loop-i

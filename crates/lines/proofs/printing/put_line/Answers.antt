@@ -1,8 +1,6 @@
 -- `lines::printing::put_line` meets its contract: a line is its byte, its two numbers and LF. Assumes nothing.
 use native.Mathlib.Omega.{arith}
-use lib.ListN.{length-set}
 use Rattle.lines.proofs.Placed.{line_parts}
-use borrow.Author.Rules.{rules}
 use Rattle.lines.proofs.printing.put_line.Goals as goal
 
 -- LEFT no goal same-length

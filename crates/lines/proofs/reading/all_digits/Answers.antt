@@ -1,9 +1,6 @@
 -- `lines::reading::all_digits` meets its contract: what is left to test decides. Assumes nothing.
-use mathlib.Core.Path.{◌≡◌, refl, sym, ◌∙◌}
-use Prim.Native.Nat.{◌-◌, ◌≤◌}
+use mathlib.Core.Path.{refl, sym, ◌∙◌}
 use native.Mathlib.Omega.{arith}
-use lib.ListN.{length, drop}
-use Rattle.lines.specs.Frames.{digits}
 use Rattle.lines.proofs.Digits.{digits_on, digits_off, digits_end}
 use borrow.Author.Rules.{rules}
 use Rattle.lines.proofs.reading.all_digits.Goals as goal

@@ -1,11 +1,8 @@
 -- `lines::reading::all_digits` meets its contract: what is left to test decides. Assumes nothing.
-use mathlib.Core.Path.{◌≡◌, refl, sym, ◌∙◌}
+use mathlib.Core.Path.{◌≡◌}
 use Prim.Native.Nat.{◌-◌, ◌≤◌}
-use native.Mathlib.Omega.{arith}
 use lib.ListN.{length, drop}
 use Rattle.lines.specs.Frames.{digits}
-use Rattle.lines.proofs.Digits.{digits_on, digits_off, digits_end}
-use borrow.Author.Rules.{rules}
 use Rattle.lines.proofs.reading.all_digits.Given as goal
 
 abbrev pub invariant-loop-i : goal.invariant-loop-i

@@ -1,7 +1,6 @@
 -- `lines::reading::by_call` meets its contract: the line has the length that its call's form says, or is no frame. Assumes nothing.
 use mathlib.Core.Path.{sym, ◌∙◌}
 use native.Mathlib.Omega.{arith}
-use borrow.Author.Rules.{rules}
 use Rattle.lines.proofs.Frames.{count_most, other_length, right_length}
 use Rattle.lines.proofs.reading.by_call.Goals as goal
 

@@ -2,7 +2,6 @@
 use native.Mathlib.Omega.{arith}
 use borrow.Author.Tests.{le-leb, lt-leb}
 use Rattle.lines.specs.Frames.{digit}
-use borrow.Author.Rules.{rules}
 use Rattle.lines.proofs.reading.digit_of.Goals as goal
 
 pub returns-then-b-lt48 : goal.returns-then-b-lt48

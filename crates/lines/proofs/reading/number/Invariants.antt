@@ -1,12 +1,8 @@
 -- `lines::reading::number` meets its contract: the digits left, behind the number so far, always make the number wanted. Assumes nothing.
-use mathlib.Core.Path.{◌≡◌, refl, sym, ◌∙◌}
-use Prim.Native.Nat.{suc, ◌-◌, ◌^◌, ◌≤◌, ◌<◌}
-use native.Mathlib.Omega.{arith}
-use native.Mathlib.Nat.{one-le-pow}
+use mathlib.Core.Path.{◌≡◌}
+use Prim.Native.Nat.{◌-◌, ◌^◌, ◌≤◌, ◌<◌}
 use lib.ListN.{take, drop}
 use Rattle.lines.specs.Frames.{value, number_at}
-use Rattle.lines.proofs.Digits.{digit_below, value_on, value_end, value_past, more_digits, sixteen_fit}
-use borrow.Author.Rules.{rules}
 use Rattle.lines.proofs.reading.number.Given as goal
 
 abbrev pub invariant-loop-left : goal.invariant-loop-left

@@ -1,9 +1,7 @@
 -- `lines::reading::read_frame` meets its contract: a line is a frame if every byte is a digit and its call's form fits. Assumes nothing.
-use mathlib.Core.Path.{◌≡◌, sym, ◌∙◌}
-use mathlib.Core.Bool.{true}
+use mathlib.Core.Path.{sym, ◌∙◌}
 use native.Mathlib.Omega.{arith}
 use borrow.Author.Rules.{rules}
-use Rattle.lines.specs.Frames.{digits}
 use Rattle.lines.proofs.Frames.{line_digits, line_other, line_longer}
 use Rattle.lines.proofs.reading.read_frame.Goals as goal
 

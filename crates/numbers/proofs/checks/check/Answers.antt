@@ -1,7 +1,6 @@
 -- `numbers::checks::check` meets its contract: each test decides one refusal, in order. Assumes nothing.
 use mathlib.Core.Path.{sym, ◌∙◌}
 use native.Mathlib.Omega.{arith}
-use borrow.Author.Rules.{rules}
 use Rattle.numbers.proofs.Verdicts.{checked_3, checked_4, checked_5, checked_fair}
 use Rattle.numbers.proofs.checks.check.Goals as goal
 

@@ -23,8 +23,8 @@ returns-then-h-bottom c = broken _ (λ f. c.if-h-bottom.true (bottom_is _ f c.al
 
 pub sound_top-requires : goal.sound_top-requires
 sound_top-requires c = record {
-      base = omega arith;
-      small = omega arith;
-      low = omega arith;
-      bottom = rw c.if-h-bottom.false c.align_up-bottom.ensures;
-    }
+  base = omega arith;
+  small = omega arith;
+  low = omega arith;
+  bottom = rw c.if-h-bottom.false c.align_up-bottom.ensures;
+}

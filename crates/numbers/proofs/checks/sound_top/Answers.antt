@@ -1,6 +1,5 @@
 -- `numbers::checks::sound_top` meets its contract: each test that fails breaks a rule, and the last one decides. Assumes nothing.
 use native.Mathlib.Omega.{arith}
-use borrow.Author.Rules.{rules}
 use borrow.Author.Tests.{leb-true, le-leb}
 use Rattle.numbers.proofs.Rules.{above_near, broken, decides}
 use Rattle.numbers.proofs.checks.sound_top.Goals as goal

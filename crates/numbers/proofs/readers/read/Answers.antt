@@ -1,11 +1,6 @@
 -- `numbers::readers::read` meets its contract: where the heap is readable no sum wraps and no difference goes below 0. Assumes nothing.
-use mathlib.Core.Path.{◌≡◌, refl, sym, ◌∙◌}
-use mathlib.Core.Bool.{true, not}
+use mathlib.Core.Path.{refl, sym, ◌∙◌}
 use native.Mathlib.Omega.{arith}
-use borrow.Author.Rules.{rules}
-use Rattle.rules.specs.Tests.{any}
-use Rattle.rules.specs.Readers.{unreadable}
-use Rattle.rules.specs.declared.Heap.{Heap}
 use Rattle.numbers.proofs.Reading.{readable_is, says_own, says_none}
 use Rattle.numbers.proofs.readers.read.Goals as goal
 

@@ -1,7 +1,6 @@
 -- `numbers::readers::readable` meets its contract: used decides where the numbers keep their rules. Assumes nothing.
 use mathlib.Core.Path.{sym, ◌∙◌}
 use native.Mathlib.Omega.{arith}
-use borrow.Author.Rules.{rules}
 use Rattle.rules.proofs.Walk.{sound_fair}
 use Rattle.numbers.proofs.Reading.{used_decides, unreadable_is}
 use Rattle.numbers.proofs.readers.readable.Goals as goal

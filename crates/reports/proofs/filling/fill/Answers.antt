@@ -1,9 +1,8 @@
 -- `reports::filling::fill` meets its contract: at each turn the holes passed stand in both rows. Assumes nothing.
-use Prim.Native.Nat.{◌-◌, ◌≤◌}
 use native.Mathlib.Omega.{arith}
 use borrow.Author.Rules.{rules}
 use Rattle.walk.proofs.Turn.{turn_bounds}
-use Rattle.reports.proofs.Filled.{Filling, fills, addrs_length, sizes_length, fills_on, fills_ended, fills_full}
+use Rattle.reports.proofs.Filled.{fills, addrs_length, sizes_length, fills_on, fills_ended, fills_full}
 use Rattle.reports.proofs.filling.fill.Goals as goal
 
 pub loop-i-init : goal.loop-i-init

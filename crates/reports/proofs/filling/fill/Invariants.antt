@@ -1,9 +1,6 @@
 -- `reports::filling::fill` meets its contract: at each turn the holes passed stand in both rows. Assumes nothing.
 use Prim.Native.Nat.{◌-◌, ◌≤◌}
-use native.Mathlib.Omega.{arith}
-use borrow.Author.Rules.{rules}
-use Rattle.walk.proofs.Turn.{turn_bounds}
-use Rattle.reports.proofs.Filled.{Filling, fills, addrs_length, sizes_length, fills_on, fills_ended, fills_full}
+use Rattle.reports.proofs.Filled.{Filling}
 use Rattle.reports.proofs.filling.fill.Given as goal
 
 abbrev pub invariant-loop-i : goal.invariant-loop-i

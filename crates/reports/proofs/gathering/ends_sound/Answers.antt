@@ -1,6 +1,5 @@
 -- `reports::gathering::ends_sound` meets its contract: its test is that of the definition. Assumes nothing.
 use mathlib.Core.Path.{sym, ◌∙◌}
-use borrow.Author.Rules.{rules}
 use Rattle.reports.specs.Reports.{ends_sound}
 use Rattle.reports.proofs.gathering.ends_sound.Goals as goal
 

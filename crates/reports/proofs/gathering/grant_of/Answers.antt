@@ -1,7 +1,6 @@
 -- `reports::gathering::grant_of` meets its contract: no candidate lies so far above its hole that the sum wraps. Assumes nothing.
 use mathlib.Core.Path.{ap}
 use native.Mathlib.Omega.{arith}
-use borrow.Author.Rules.{rules}
 use Rattle.rules.specs.declared.Addr.{Addr}
 use Rattle.walk.proofs.ToFit.{candidate_near}
 use Rattle.reports.proofs.Gathered.{grant_none, grant_some}

@@ -1,15 +1,12 @@
 -- `reports::gathering::survey` meets its contract: at each turn sum, count and largest are those of the holes passed. Assumes nothing.
-use mathlib.Core.Path.{◌≡◌, refl, sym, ◌∙◌}
-use mathlib.Core.List.{List, []}
-use Prim.Native.Nat.{◌+◌, ◌-◌}
+use mathlib.Core.Path.{refl, sym, ◌∙◌}
+use mathlib.Core.List.{[]}
 use native.Mathlib.Omega.{arith}
 use borrow.Author.Rules.{rules}
-use Rattle.rules.specs.Fixed.{min_size}
 use Rattle.rules.specs.Allocate.{largest_grant}
-use Rattle.rules.specs.declared.Hole.{Hole}
 use Rattle.walk.specs.Walk.{never}
-use Rattle.walk.proofs.Turn.{all, Bounds, turn_bounds}
-use Rattle.walk.proofs.Gathered.{Counting, counts, counts_on}
+use Rattle.walk.proofs.Turn.{turn_bounds}
+use Rattle.walk.proofs.Gathered.{counts, counts_on}
 use Rattle.reports.proofs.Gathered.{largest_on, surveyed, survey_broken}
 use Rattle.reports.proofs.gathering.survey.Goals as goal
 

@@ -1,7 +1,6 @@
 -- `resize::fitting::leaves_gap` meets its contract: its two returns are the two tests of a gap. Assumes nothing.
 use mathlib.Core.Path.{sym}
 use mathlib.Core.Bool.{or-false}
-use borrow.Author.Rules.{rules}
 use borrow.Author.Tests.{eq-eqb, ne_eqb}
 use Rattle.rules.specs.Sound.{gap}
 use Rattle.resize.proofs.fitting.leaves_gap.Goals as goal

@@ -1,28 +1,22 @@
 -- `resize::fitting::refit` meets its contract: the walk decides 5, the neighbours 8, the stretch 10, and the rest of it is linked. Assumes
 -- nothing.
 use mathlib.Core.Path.{◌≡◌, sym, ◌∙◌}
-use mathlib.Core.Bool.{true, false}
+use mathlib.Core.Bool.{true}
 use native.Mathlib.Omega.{arith}
-use borrow.Author.Rules.{rules}
 use mathlib.Core.List.{List}
 use Prim.Native.Nat.{ℕ}
 use Rattle.rules.specs.declared.Addr.{Addr}
 use Rattle.rules.specs.declared.Heap.{Heap}
-use Rattle.rules.specs.Kinds.{plus}
-use Rattle.rules.specs.Holes.{hole}
-use Rattle.rules.specs.Sound.{gap, sound_holes, holes}
-use Rattle.rules.specs.Resize.{stretch_end}
+use Rattle.rules.specs.Sound.{sound_holes, holes}
 use Rattle.rules.proofs.Powers.{power_pos}
 use Rattle.rules.proofs.Gaps.{gap_words}
 use Rattle.rules.proofs.Walk.{sound_sum}
 use Rattle.rules.proofs.Written.{fulfils_broken}
 use Rattle.walk.specs.declared.Near.{Near}
 use Rattle.walk.specs.Settled.{Ready, Settled}
-use Rattle.joining.specs.Span.{Free}
 use Rattle.joining.proofs.Inserted.{may_merge}
-use Rattle.joining.proofs.Rest.{Ends, ends, stretch_end_lem}
+use Rattle.joining.proofs.Rest.{ends, stretch_end_lem}
 use Rattle.joining.proofs.Neighbours.{near_broken, Sought, seeks, starts, goes_on}
-use Rattle.free.specs.SpanTests.{may_free}
 use Rattle.free.proofs.Freeing.{Known, span_around, span_free, span_used}
 use Rattle.resize.specs.Refits.{refits}
 use Rattle.resize.proofs.Refitting.{block_refused, stretch_refused, block_refitted}

@@ -1,6 +1,5 @@
 -- `walk::one_step::first_floor` meets its contract: the test of the place is that of the definition. Assumes nothing.
 use mathlib.Core.Path.{sym, ap, ◌∙◌}
-use borrow.Author.Rules.{rules}
 use borrow.Author.Tests.{eq-eqb, ne_eqb}
 use Rattle.rules.specs.declared.Place.{Place}
 use Rattle.walk.specs.Walk.{start_of}

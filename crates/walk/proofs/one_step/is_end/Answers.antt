@@ -1,5 +1,4 @@
 -- `walk::one_step::is_end` meets its contract: its arms are the clauses of the definition. Assumes nothing.
-use borrow.Author.Rules.{rules}
 use Rattle.walk.specs.Walk.{is_end}
 use Rattle.walk.proofs.one_step.is_end.Goals as goal
 

@@ -2,19 +2,12 @@
 use mathlib.Core.Path.{◌≡◌, refl, ap, ◌∙◌}
 use Prim.Native.Nat.{◌+◌, ◌-◌, ◌≤◌}
 use native.Mathlib.Omega.{arith}
-use borrow.Author.Rules.{rules}
 use Rattle.rules.specs.Fixed.{min_size}
 use Rattle.rules.specs.Kinds.{place_of}
-use Rattle.rules.specs.Holes.{hole}
 use Rattle.rules.specs.Inner.{Fair}
 use Rattle.rules.specs.declared.Addr.{Addr}
 use Rattle.rules.specs.declared.Place.{Place}
-use Rattle.rules.specs.declared.Hole.{Hole}
 use Rattle.rules.specs.declared.Heap.{Heap}
-use Rattle.rules.proofs.Walk.{Keeps}
-use Rattle.walk.specs.declared.Step.{Step}
-use Rattle.walk.specs.declared.Step.TheVariants as step
-use Rattle.walk.specs.Walk.{step_of}
 use Rattle.walk.proofs.OneStep.{ended, kept, broken, both_eight, eight_both}
 use Rattle.walk.proofs.one_step.next.Goals as goal
 

@@ -1,6 +1,5 @@
 -- `walk::to_end::adds_up` meets its contract: its arms are the clauses of the definition. Assumes nothing.
 use mathlib.Core.Path.{◌∙◌}
-use borrow.Author.Rules.{rules}
 use Rattle.walk.specs.Walk.{adds_up}
 use Rattle.walk.proofs.to_end.adds_up.Goals as goal
 

@@ -1,6 +1,5 @@
 -- `walk::to_end::is_all_free` meets its contract: the sum is tested by a difference, which does not wrap. Assumes nothing.
 use mathlib.Core.Path.{sym, ◌∙◌}
-use borrow.Author.Rules.{rules}
 use Rattle.walk.proofs.ToEnd.{sum_left, sum_over}
 use Rattle.walk.proofs.to_end.is_all_free.Goals as goal
 

@@ -3,7 +3,6 @@
 use mathlib.Core.Path.{◌≡◌, sym, ◌∙◌}
 use Prim.Native.Nat.{suc}
 use native.Mathlib.Omega.{arith}
-use borrow.Author.Rules.{rules}
 use Rattle.rules.specs.Sound.{most, holes}
 use Rattle.walk.specs.Walk.{start_of, walked_of}
 use Rattle.walk.proofs.Turn.{start}

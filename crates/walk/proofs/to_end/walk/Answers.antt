@@ -1,11 +1,8 @@
 -- `walk::to_end::walk` meets its contract: at each turn the sum is that of the holes passed, and the floor rises. Assumes nothing.
 use mathlib.Core.Path.{sym, ◌∙◌}
-use Prim.Native.Nat.{◌+◌, ◌-◌}
 use native.Mathlib.Omega.{arith}
-use borrow.Author.Rules.{rules}
-use Rattle.rules.specs.Fixed.{min_size}
-use Rattle.walk.proofs.Turn.{Bounds, turn_bounds}
-use Rattle.walk.proofs.ToEnd.{onward, Summing, sums, sums_on, walk_ended, walk_broken}
+use Rattle.walk.proofs.Turn.{turn_bounds}
+use Rattle.walk.proofs.ToEnd.{sums, sums_on, walk_ended, walk_broken}
 use Rattle.walk.proofs.to_end.walk.Goals as goal
 
 pub loop-hole-init : goal.loop-hole-init

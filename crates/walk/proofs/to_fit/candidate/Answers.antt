@@ -1,6 +1,5 @@
 -- `walk::to_fit::candidate` meets its contract: the offset tells whether the address is a multiple. Assumes nothing.
 use mathlib.Core.Path.{sym, ◌∙◌}
-use borrow.Author.Rules.{rules}
 use Rattle.walk.proofs.ToFit.{aligned_candidate, raised_candidate}
 use Rattle.walk.proofs.to_fit.candidate.Goals as goal
 

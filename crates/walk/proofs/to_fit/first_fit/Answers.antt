@@ -1,13 +1,11 @@
 -- `walk::to_fit::first_fit` meets its contract: at each turn cursor, sum and count are those of the holes passed, and the floor rises.
 -- Assumes nothing.
 use mathlib.Core.Path.{sym, ◌∙◌}
-use Prim.Native.Nat.{◌+◌, ◌-◌}
 use native.Mathlib.Omega.{arith}
 use borrow.Author.Rules.{rules}
-use Rattle.rules.specs.Fixed.{min_size}
 use Rattle.rules.specs.Allocate.{suits}
-use Rattle.walk.proofs.Turn.{all, Bounds, turn_bounds}
-use Rattle.walk.proofs.Gathered.{Seeking, seeks, seeks_on}
+use Rattle.walk.proofs.Turn.{turn_bounds}
+use Rattle.walk.proofs.Gathered.{seeks, seeks_on}
 use Rattle.walk.proofs.ToFit.{search_found, search_ended, search_broken}
 use Rattle.walk.proofs.to_fit.first_fit.Goals as goal
 

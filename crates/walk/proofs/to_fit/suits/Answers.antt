@@ -2,7 +2,6 @@
 -- Assumes nothing.
 use mathlib.Core.Path.{ap}
 use native.Mathlib.Omega.{arith}
-use borrow.Author.Rules.{rules}
 use Rattle.rules.specs.declared.Addr.{Addr}
 use Rattle.walk.proofs.ToFit.{candidate_near, small_unsuited, past_unsuited, filled_suits, left_suits}
 use Rattle.walk.proofs.to_fit.suits.Goals as goal

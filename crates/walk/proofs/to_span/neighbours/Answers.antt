@@ -1,14 +1,11 @@
 -- `walk::to_span::neighbours` meets its contract: at each turn cursor and sum are those of the holes passed, and the floor rises.
 -- Assumes nothing.
 use mathlib.Core.Path.{sym, ◌∙◌}
-use Prim.Native.Nat.{ℕ, ◌+◌, ◌-◌}
 use native.Mathlib.Omega.{arith}
-use borrow.Author.Rules.{rules}
 use borrow.Author.Tests.{le-ltb}
-use Rattle.rules.specs.Fixed.{min_size}
 use Rattle.walk.specs.Walk.{is_beyond}
-use Rattle.walk.proofs.Turn.{all, Bounds, turn_bounds}
-use Rattle.walk.proofs.Gathered.{Seeking, seeks, seeks_on}
+use Rattle.walk.proofs.Turn.{turn_bounds}
+use Rattle.walk.proofs.Gathered.{seeks, seeks_on}
 use Rattle.walk.proofs.ToSpan.{near_found, near_ended, near_broken}
 use Rattle.walk.proofs.to_span.neighbours.Goals as goal
 
