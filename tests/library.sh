@@ -7,14 +7,14 @@
 
 # usage: build_library   (in the repository's folder)
 build_library() {
-    # what it builds on first: `rt check` proves rooms side by side, `rt staticlib` one after the other
-    RT_JOBS="${RT_JOBS:-4}" rt check $(sed -n 's/^c_face: *//p' crates.txt) || return
-    rt staticlib c_face && cp target/staticlib/libc_face.a target/staticlib/libleanlantern.a
+    (cd crates/c_face && rt lib) || return
+    mkdir -p target/staticlib && cp crates/c_face/out/libc_face.a target/staticlib/libleanlantern.a
 }
 
 need_library() {
     local library=$1/target/staticlib/libleanlantern.a
-    if [ ! -f "$library" ] || [ -n "$(find "$1/crates" "$1/crates.txt" -newer "$library" -type f -print -quit)" ]; then
+    # (what rt keeps in a crate's out/ is made from the other files)
+    if [ ! -f "$library" ] || [ -n "$(find "$1/crates" "$1/crates.txt" -name out -prune -o -newer "$library" -type f -print -quit)" ]; then
         (cd "$1" && build_library >&2)
     fi
 }
