@@ -1,8 +1,8 @@
 #!/usr/bin/env python3
 """Runs the wire program on awkward inputs and compares its answers: tests/wire.py [PROGRAM].
 
-PROGRAM is target/bin/wire where none is given. The last line says how many cases agree; the exit
-status is 1 if one does not.
+PROGRAM is crates/wire/out/wire where none is given, which `rt ci` leaves there, and `rt run` in
+crates/wire. The last line says how many cases agree; the exit status is 1 if one does not.
 """
 import contextlib
 import os
@@ -19,7 +19,7 @@ import tempfile
 import time
 
 HERE = os.path.dirname(os.path.dirname(os.path.abspath(__file__)))
-WIRE = os.path.abspath(sys.argv[1]) if len(sys.argv) > 1 else os.path.join(HERE, "target/bin/wire")
+WIRE = os.path.abspath(sys.argv[1]) if len(sys.argv) > 1 else os.path.join(HERE, "crates/wire/out/wire")
 LIMIT = 60  # seconds that a case may take
 FRAME = re.compile(rb"0[12][0-9a-f]{32}|03[0-9a-f]{48}|0[46][0-9a-f]{16}|05|07[0-9a-f]{64}")
 NUMBERS = {1: 2, 2: 2, 3: 3, 4: 1, 5: 0, 6: 1, 7: 4}  # how many each call has
