@@ -38,13 +38,13 @@ ROOMS = {
 }
 STATED = {"lines": "Format", "talk": "Transcript", "c_face": "Statements"}
 # bounds that only code is held to: without it nothing refuses a change of them
-BOUNDS = {"answersRoom", "Bounded", "Hears"}
+BOUNDS = {"answers_room", "Bounded", "Hears"}
 
 # one name for another of the same type
 SWAPS = [
-    ("leb", "ltb"), ("notAfter", "before"), ("&&", "||"), ("true", "false"), ("+", "-"), ("all", "any"), ("max", "min"), ("minSize", "grain"),
-    ("arenaLimit", "addrLimit"), (".bottom", ".top"), (".base", ".bottom"), (".pending", ".used"), ("front", "back"),
-    ("downTo", "upTo"), ("/", "%"), ("≤", "<"),
+    ("leb", "ltb"), ("not_after", "before"), ("&&", "||"), ("true", "false"), ("+", "-"), ("all", "any"), ("max", "min"), ("min_size", "grain"),
+    ("arena_limit", "addr_limit"), (".bottom", ".top"), (".base", ".bottom"), (".pending", ".used"), ("front", "back"),
+    ("down_to", "up_to"), ("/", "%"), ("≤", "<"),
 ]
 # an order of tests is changed by exchanging what two of them give
 CONSTRUCTORS = {
@@ -55,15 +55,14 @@ CONSTRUCTORS = {
 NUMBERS = set("base named s align a n by code one two i x".split())
 # where a name that a mutant brings comes from
 HOMES = {
-    "leb": "lib.Dec", "ltb": "lib.Dec", "eqb": "lib.Dec", "true": "mathlib.Core.Bool", "false": "mathlib.Core.Bool",
-    "_&&_": "mathlib.Core.Bool", "_||_": "mathlib.Core.Bool", "max": "Prim.Native.Nat", "min": "Prim.Native.Nat", "_+_": "Prim.Native.Nat",
-    "_-_": "Prim.Native.Nat", "_/_": "Prim.Native.Nat", "_%_": "Prim.Native.Nat", "_<_": "Prim.Native.Nat", "_≤_": "Prim.Native.Nat",
-    "notAfter": "Rattle·rules·specs.specs.Kinds", "before": "Rattle·rules·specs.specs.Kinds", "all": "Rattle·rules·specs.specs.Tests",
-    "any": "Rattle·rules·specs.specs.Tests", "minSize": "Rattle·rules·specs.specs.Fixed", "grain": "Rattle·rules·specs.specs.Fixed",
-    "arenaLimit": "Rattle·rules·specs.specs.Fixed", "addrLimit": "Rattle·rules·specs.specs.Fixed", "upTo": "Rattle·rules·specs.specs.Round",
-    "downTo": "Rattle·rules·specs.specs.Round",
+    **dict.fromkeys("leb ltb eqb true false max min ◌&&◌ ◌||◌ ◌+◌ ◌-◌ ◌/◌ ◌%◌ ◌<◌ ◌≤◌".split(), "Rattle.std.specs.Prelude"),
+    "not_after": "Rattle.rules.specs.Kinds", "before": "Rattle.rules.specs.Kinds", "all": "Rattle.rules.specs.Tests",
+    "any": "Rattle.rules.specs.Tests", "min_size": "Rattle.rules.specs.Fixed", "grain": "Rattle.rules.specs.Fixed",
+    "arena_limit": "Rattle.rules.specs.Fixed", "addr_limit": "Rattle.rules.specs.Fixed", "up_to": "Rattle.rules.specs.Round",
+    "down_to": "Rattle.rules.specs.Round",
 }
-TOKEN = re.compile(r"--[^\n]*|[^\s(){};,]+|[(){};,]")
+# a field is a word of its own
+TOKEN = re.compile(r"--[^\n]*|\.[A-Za-z]\w*|(?:(?!\.[A-Za-z])[^\s(){};,])+|[(){};,]")
 
 
 class Mutant:
@@ -74,18 +73,16 @@ class Mutant:
     def text(self, source):
         changed = source[: self.start] + self.new + source[self.end :]
         for word in re.findall(r"[^\s(){};,]+", self.new):
-            changed = imported(self.crate, changed, word)
+            changed = imported(changed, word)
         return changed
 
 
-def imported(crate, source, word):
+def imported(source, word):
     """The source with the name imported, if it is one that a mutant brings."""
-    for name in (word, f"_{word}_"):
+    for name in (word, f"◌{word}◌"):
         home = HOMES.get(name)
         if home is None:
             continue
-        if crate != "rules":
-            home = home.replace("Rattle·rules·specs.specs", "Rattle·rules.specs")
         lines = source.split("\n")
         for line in lines:
             if line.startswith("use ") and re.search(r"[{ ]" + re.escape(name) + r"[,}]", line):
@@ -149,6 +146,7 @@ def atoms(text, at, count):
                 at += 1
                 if depth == 0:
                     break
+            at += len(re.match(r"(?:\.\w+)*", text[at:]).group())
         else:
             while at < len(text) and not text[at].isspace() and text[at] not in "()":
                 at += 1
@@ -208,7 +206,7 @@ def dropped(text, made):
             begin = opened.pop()
         elif char == "∷":
             test = re.sub(r"--[^\n]*\n", "", text[begin:i]).strip()
-            if test and " " in test:
+            if re.search(r"[ .]", test):
                 yield made(begin, i + 1, " ", f"{' '.join(test.split())} left out")
             begin = i + 1
 
@@ -276,17 +274,17 @@ def stated(crate):
         file = left.pop()
         found.add(f"proofs/{file}.antt")
         with open(os.path.join(crate, f"proofs/{file}.antt")) as text:
-            for word in re.findall(rf"^use Rattle·{name}·proofs\.proofs\.(\w+)", text.read(), re.M):
+            for word in re.findall(rf"^use Rattle\.{name}\.proofs\.(\w+)", text.read(), re.M):
                 if f"proofs/{word}.antt" not in found:
                     left.append(word)
     return found
 
 
-def checked(room, *words):
-    """The verdict of one check, and its errors."""
-    run = subprocess.run(["rt", *words], capture_output=True, text=True, cwd=room)
+def checked(room, word, crate):
+    """The verdict of one check of the crate, and its errors."""
+    run = subprocess.run(["rt", word], capture_output=True, text=True, cwd=os.path.join(room, "crates", crate))
     said = run.stdout + run.stderr
-    errors = [re.sub(r"^.*/crates/(rules/|lines/|talk/|c_face/)?", "", line)[:240] for line in said.split("\n") if ": error" in line]
+    errors = [re.sub(r"^\./", "", line)[:240] for line in said.split("\n") if ": error" in line]
     if run.returncode == 0 and "logic=proved" in said:
         return "survived", []
     return ("refused" if "logic=not-proved" in said else "untold"), errors
@@ -301,9 +299,9 @@ def tried(known, m, source):
         crate = os.path.join(own, "crates", m.crate)
         with open(os.path.join(crate, f"specs/{m.file}.antt"), "w") as out:
             out.write(m.text(source))
-        verdict, errors = checked(own, "dev", m.crate)
+        verdict, errors = checked(own, "check", m.crate)
         if verdict == "survived":
-            verdict, errors = checked(own, "check", "demands" if m.crate == "rules" else m.crate)
+            verdict, errors = checked(own, "verdict", "demands" if m.crate == "rules" else m.crate)
         first = errors[0] if errors else ""
         if first.startswith(f"specs/{m.file}.antt"):
             verdict = "void"
@@ -342,7 +340,7 @@ def main():
     for crate in sorted({m.crate for m in queue}):
         known[crate] = os.path.join(rooms.name, crate)
         copied(given.repo, known[crate], crate)
-        verdict, errors = checked(known[crate], "dev", crate)
+        verdict, errors = checked(known[crate], "check", crate)
         if verdict != "survived":
             print(f"crate {crate} as it is: {verdict}: {errors[:1]}")
             return 2
