@@ -15,7 +15,7 @@ use Rattle.rules.specs.Behaviour.{Behaviour}
 use Rattle.rules.specs.Statements.{LargestGrant, RowAt, SameRow}
 use Rattle.rules.proofs.Cases.{by_le}
 
--- the i_th number that is written is the i_th hole's
+-- the i-th number that is written is the i-th hole's
 row_at : (f : Hole → ℕ) (ks : List Hole) (n : ℕ) (row row' : List ℕ) (i : ℕ) → RowAt f ks n row row' → i < min n (length ks)
     → get_or row' i 0 ≡ f (get_or ks i (hole (addr 0) 0))
 row_at f ks n row row' i p l =

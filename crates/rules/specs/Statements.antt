@@ -262,7 +262,7 @@ RoomDoes b =
     (h : Heap) (m : List ℕ) (align : ℕ) → Good b h m → Valid 16 align 16
     → (n : ℕ) × LargestGrant b h m align n × (b.outcome (room align) h m ≡ told (Room n (length (b.holes h m))) [])
 
--- the i_th number of a row: of the i_th hole, as far as the shorter row holds; else what stood there
+-- the i-th number of a row: of the i-th hole, as far as the shorter row holds; else what stood there
 abbrev pub RowAt : (Hole → ℕ) → List Hole → ℕ → List ℕ → List ℕ → Type 0
 RowAt f ks n row row' =
     (length row' ≡ length row)

@@ -7,10 +7,6 @@ use Rattle.rules.proofs.Written.{fulfils_left}
 use Rattle.request.proofs.Requests.{requested_no, requested}
 use Rattle.allocate.proofs.decide.Goals as goal
 
--- ---- what is known once the request has passed its tests
-
--- ---- the needs
-
 pub allocate_first_fit-requires : goal.allocate_first_fit-requires
 allocate_first_fit-requires c = let q = (requested c.args.h c.args.arena.now c.args.size c.args.align (search rules) (sym c.check-asked.ensures.0 ∙ c.in-Of.is)) in
     (record { lent = q.lent; bytes = c.check-asked.ensures.1 }, q.asked)

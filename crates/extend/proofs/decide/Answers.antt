@@ -6,10 +6,6 @@ use Rattle.rules.proofs.Written.{fulfils_left}
 use Rattle.numbers.proofs.Verdicts.{tested, tested_no}
 use Rattle.extend.proofs.decide.Goals as goal
 
--- ---- what is known once the numbers are checked, and once they keep their rules
-
--- ---- the needs
-
 pub returns-in-No : goal.returns-in-No
 returns-in-No c = rw c.refuse.ensures
     (tested_no c.args.h c.args.arena.now c.arena_len.ensures.0 c.check-checked.ensures (extend c.args.by) refl

@@ -4,10 +4,6 @@ use native.Mathlib.Omega.{arith}
 use Rattle.joining.proofs.Inserted.{may_merge, may_end, bounds_at, ends_there, insert_apart, insert_joined}
 use Rattle.joining.proofs.insert.Goals as goal
 
--- ---- what is known once the head is merged, and once the hole before was looked at
-
--- ---- the needs
-
 pub try_merge_next-merged-requires : goal.try_merge_next-merged-requires
 try_merge_next-merged-requires c = may_merge c.requires.0 c.requires.1
 

@@ -4,10 +4,6 @@ use Rattle.rules.proofs.Gaps.{gap_le}
 use Rattle.joining.proofs.Rest.{ends, rest_relinked}
 use Rattle.joining.proofs.link_rest.Goals as goal
 
--- ---- what is known from the start
-
--- ---- the needs
-
 pub overflow_add-end : goal.overflow_add-end
 overflow_add-end c = let b = (ends c.requires.0 c.requires.1 c.requires.2) in omega arith
 

@@ -3,10 +3,6 @@ use mathlib.Core.Path.{sym, ◌∙◌}
 use Rattle.open.proofs.Begun.{opened_rises, begun_2, begun_1, begun}
 use Rattle.open.proofs.decide.Goals as goal
 
--- ---- once refusal 1 is tested, and once there is a heap
-
--- ---- the needs
-
 pub returns-then-h-ne0 : goal.returns-then-h-ne0
 returns-then-h-ne0 c m lent = let s = c.args in rw c.refuse.ensures (begun_2 s.base s.named s.h m c.if-h-ne0.true)
 

@@ -7,10 +7,6 @@ use Rattle.numbers.proofs.Refused.{may_open}
 use Rattle.open.proofs.Begun.{is_bottom}
 use Rattle.open.proofs.new.Goals as goal
 
--- ---- what is known from the start, and once bottom is known
-
--- ---- the needs
-
 pub align_up-bottom-requires : goal.align_up-bottom-requires
 align_up-bottom-requires c = (grain_power, omega (arith, ((may_open c.args.len c.args.base c.args.named c.requires)).low))
 

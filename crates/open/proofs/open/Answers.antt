@@ -3,10 +3,6 @@ use mathlib.Core.Path.{sym}
 use Rattle.rules.proofs.Written.{is_written}
 use Rattle.open.proofs.open.Goals as goal
 
--- ---- what is decided
-
--- ---- the needs
-
 pub write-requires : goal.write-requires
 write-requires c = let e = (c.decide-d.ensures c.args.arena.now (sym c.arena_len.ensures.0)) in (e.heads.one, e.heads.two)
 

@@ -7,10 +7,6 @@ use Rattle.numbers.proofs.Verdicts.{tested}
 use Rattle.reports.proofs.Gathered.{survey_says, report_no, list_broken, list_told, used_fits}
 use Rattle.reports.proofs.list.Goals as goal
 
--- ---- what is known once the numbers have passed
-
--- ---- the needs
-
 pub returns-in-No : goal.returns-in-No
 returns-in-No c = let s = c.args in
     let e = report_no _ _ list refl c.arena_len.ensures.0 c.check-checked.ensures c.in-No.is in

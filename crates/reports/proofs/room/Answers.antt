@@ -10,10 +10,6 @@ use Rattle.request.proofs.Requests.{requested_no, requested}
 use Rattle.reports.proofs.Gathered.{survey_says, room_broken, room_told}
 use Rattle.reports.proofs.room.Goals as goal
 
--- ---- what is known once the request for 16 bytes has passed its tests
-
--- ---- the needs
-
 pub returns-in-No : goal.returns-in-No
 returns-in-No c = let s = c.args in
     (requested_no s.h s.arena.now min_size s.align (room s.align) refl refl (sym c.check-asked.ensures.0 ∙ c.in-No.is)).answer

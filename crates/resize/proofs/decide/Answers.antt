@@ -8,10 +8,6 @@ use Rattle.rules.proofs.Written.{fulfils_left, fulfils_later}
 use Rattle.request.proofs.Requests.{requested_no, requested, layout_asked}
 use Rattle.resize.proofs.decide.Goals as goal
 
--- ---- what is known once the old layout has passed its tests, and once the new one is rounded
-
--- ---- the needs
-
 pub bad_layout-requires : goal.bad_layout-requires
 bad_layout-requires c = ((requested c.args.h c.args.arena.now c.args.old c.args.align (search rules) (sym c.check-asked.ensures.0 ∙ c.in-Of.is))).lent
 

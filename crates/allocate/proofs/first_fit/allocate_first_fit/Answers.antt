@@ -7,10 +7,6 @@ use Rattle.allocate.specs.Granted.{takes}
 use Rattle.allocate.proofs.Searched.{inside, asks, goes_on, no_fit_is}
 use Rattle.allocate.proofs.first_fit.allocate_first_fit.Goals as goal
 
--- ---- what is known once the search has found a hole, and once the walk behind it adds up
-
--- ---- the needs
-
 pub returns-in_default : goal.returns-in_default
 returns-in_default c = rw c.no_fit.ensures
     (no_fit_is c.args.h c.args.arena.now c.args.want c.args.align c.requires.0.lent.fair

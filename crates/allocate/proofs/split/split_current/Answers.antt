@@ -4,10 +4,6 @@ use Rattle.walk.proofs.ToFit.{fit_at}
 use Rattle.allocate.proofs.Pieces.{room, split_is}
 use Rattle.allocate.proofs.split.split_current.Goals as goal
 
--- ---- what is known from the start, and once the block's address is known
-
--- ---- the needs
-
 pub candidate-start-requires : goal.candidate-start-requires
 candidate-start-requires c = let r = (room c.args.h c.args.arena.now c.args.want c.args.align c.requires.0 c.requires.1 ((fit_at c.args.h c.args.want c.args.align _ c.requires.2))) in
     (c.requires.1.power, omega (arith, c.requires.1.room), omega arith)

@@ -9,10 +9,6 @@ use Rattle.joining.proofs.Neighbours.{near_broken, seeks}
 use Rattle.extend.proofs.Extending.{top_sound, top_free, Fits, past_is, gathers_is, grows_is}
 use Rattle.extend.proofs.growth.extend_top.Goals as goal
 
--- ---- what is known once the search has passed every hole, once the sum is right, and once the bytes are there
-
--- ---- the needs
-
 pub returns-in_default : goal.returns-in_default
 returns-in_default c = let h = c.args.h in
     let m = c.args.arena.now in

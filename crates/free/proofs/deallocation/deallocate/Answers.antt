@@ -7,10 +7,6 @@ use Rattle.joining.proofs.Neighbours.{near_broken, seeks, starts, goes_on}
 use Rattle.free.proofs.Freeing.{span_around, span_refused, span_free, span_used, span_freed}
 use Rattle.free.proofs.deallocation.deallocate.Goals as goal
 
--- ---- what is known once the search has found neighbours, once the walk behind them adds up, and once the span is tested
-
--- ---- the needs
-
 pub returns-in_default : goal.returns-in_default
 returns-in_default c = let h = c.args.h in
     let m = c.args.arena.now in

@@ -6,10 +6,6 @@ use Rattle.free.proofs.Gaps.{keeps_before, before_none, before_gap, between_low,
 use Rattle.free.proofs.span.between.Goals as goal
 use Rattle.free.proofs.span.between.Goals.{then-cursor+else-not-keeps_gap, else-cursor}
 
--- ---- what is known once the hole before was looked at
-
--- ---- the needs
-
 pub overflow_sub-near : goal.overflow_sub-near
 overflow_sub-near c = c.requires.1.floor c.if-cursor.true
 

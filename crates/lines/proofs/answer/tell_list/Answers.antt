@@ -25,8 +25,6 @@ first-is : {t : Told} {a a' : Answer} (out m : List ℕ) → t ≡ told (answer_
     → take 35 out ≡ numbers_line (answer_numbers a')
 first-is out m e k p = rw (p, e, k) (line_front _ _ _ m)
 
--- ---- what is known once the answer's numbers are
-
 pub put_holes-requires : goal.put_holes-requires
 put_holes-requires c = let f = (listed_few c.args.h c.args.arena.now ((search rules)) ((one-is c.answer_numbers-t.ensures c.list-answer.ensures.0))) in
     (omega arith, omega arith, omega arith)

@@ -3,9 +3,6 @@ use native.Mathlib.Omega.{arith}
 use Rattle.lines.proofs.Placed.{line_parts}
 use Rattle.lines.proofs.printing.put_line.Goals as goal
 
--- LEFT no goal same-length
--- same_length = simp length-set (search rules)
-
 pub returns : goal.returns
 returns c = let s = c.args in
     rw (c.put_hex-3.ensures, c.put_hex-2.ensures, c.put_hex.ensures)

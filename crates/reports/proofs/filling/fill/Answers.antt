@@ -8,12 +8,6 @@ use Rattle.reports.proofs.filling.fill.Goals as goal
 pub loop-i-init : goal.loop-i-init
 loop-i-init c = rw c.first_floor-floor.ensures (fills c.args.h c.args.arena.now c.args.addrs.now c.args.sizes.now c.requires, search rules)
 
--- LEFT no goal same-length
--- same_length = addrs_length _ _ _ _ c.loop-i.invariant.0
-
--- LEFT no goal same-length-2
--- same-length-2 = sizes_length _ _ _ _ c.loop-i.invariant.0
-
 pub returns-in_default : goal.returns-in_default
 returns-in_default c = let e = c.shorter-end.ensures in
     fills_ended _ _ _ _ c.loop-i.invariant.0 c.next-st.ensures (omega arith) c.requires.sound c.in_default.not-At
@@ -33,12 +27,6 @@ pub loop-i-preserved : goal.loop-i-preserved
 loop-i-preserved c = let e = c.shorter-end.ensures in
     rw c.behind-floor.ensures
     (fills_on _ _ _ _ c.loop-i.invariant.0 c.next-st.ensures (omega arith) c.in-At.is, search rules)
-
--- LEFT no goal same-length-3
--- same-length-3 = addrs_length _ _ _ _ c.loop-i.invariant.0
-
--- LEFT no goal same-length-4
--- same-length-4 = sizes_length _ _ _ _ c.loop-i.invariant.0
 
 pub returns : goal.returns
 returns c = let e = c.shorter-end.ensures in

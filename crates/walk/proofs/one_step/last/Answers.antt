@@ -1,4 +1,4 @@
--- `cursor::one_step::last` meets its contract: its tests are those of the definition, in their order. Assumes nothing.
+-- `walk::one_step::last` meets its contract: its tests are those of the definition, in their order. Assumes nothing.
 use borrow.Author.Tests.{le-leb, lt-leb, eq-eqb, ne_eqb}
 use Rattle.walk.specs.Walk.{last_of}
 use Rattle.rules.specs.Inner.{ends}
