@@ -1,7 +1,7 @@
 #!/usr/bin/env python3
 """Brings the repository's own definitions, lemmas, fields and constructors to snake case, once.
 
-usage: tools/spell.py [--dry]    at the top, right after /opt/rattle/port/port.py
+usage: tools/spell.py [--dry]    at the top, right after the kit's port.py
 
 A name of ours that begins with a small letter and holds a capital or a dash is written with underscores: headAt is head_at,
 putHead-above is put_head_above. Names that begin with a capital (facts, types, modules, constructors) stay. So do the names of
