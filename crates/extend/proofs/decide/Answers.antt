@@ -12,9 +12,17 @@ returns-in-No c = rw c.refuse.ensures
     c.in-No.is)
 
 pub extend_top-requires : goal.extend_top-requires
-extend_top-requires c = record { lent = ((tested c.args.h c.args.arena.now c.arena_len.ensures.0 c.check-checked.ensures c.in_default.is)).lent; bytes = c.arena_len.ensures.1 }
+extend_top-requires c =
+    record {
+      lent = (tested c.args.h c.args.arena.now c.arena_len.ensures.0 c.check-checked.ensures
+          c.in_default.is).lent;
+      bytes = c.arena_len.ensures.1;
+    }
 
 pub returns : goal.returns
 returns c = fulfils_left (extend c.args.by) c.args.h c.args.arena.now _
-    (extend_on c.args.h c.args.arena.now ((tested c.args.h c.args.arena.now c.arena_len.ensures.0 c.check-checked.ensures c.in_default.is)).lent.lent ((tested c.args.h c.args.arena.now c.arena_len.ensures.0 c.check-checked.ensures c.in_default.is)).numbers c.args.by)
+    (extend_on c.args.h c.args.arena.now
+    (tested c.args.h c.args.arena.now c.arena_len.ensures.0 c.check-checked.ensures c.in_default.is).lent.lent
+    (tested c.args.h c.args.arena.now c.arena_len.ensures.0 c.check-checked.ensures c.in_default.is).numbers
+    c.args.by)
     c.extend_top.ensures

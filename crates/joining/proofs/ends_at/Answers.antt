@@ -12,7 +12,8 @@ pub read_head-before-requires : goal.read_head-before-requires
 read_head-before-requires c = c.requires.inside c.if-prev-eq-NONE.false
 
 pub overflow_add-result : goal.overflow_add-result
-overflow_add-result c = let fits = c.requires.reach c.if-prev-eq-NONE.false in
+overflow_add-result c =
+    let fits = c.requires.reach c.if-prev-eq-NONE.false in
     rw c.read_head-before.ensures (omega arith)
 
 pub returns : goal.returns

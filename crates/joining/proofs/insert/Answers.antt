@@ -8,7 +8,7 @@ pub try_merge_next-merged-requires : goal.try_merge_next-merged-requires
 try_merge_next-merged-requires c = may_merge c.requires.0 c.requires.1
 
 pub place_of-at-requires : goal.place_of-at-requires
-place_of-at-requires c = ((bounds_at c.requires.0 c.requires.1 c.try_merge_next-merged.ensures)).low
+place_of-at-requires c = (bounds_at c.requires.0 c.requires.1 c.try_merge_next-merged.ensures).low
 
 pub ends_at-requires : goal.ends_at-requires
 ends_at-requires c = may_end c.requires.0 c.requires.1
@@ -23,11 +23,17 @@ returns-then-not-ends_at c = rw c.link.ensures
 
 pub read_head-before-requires : goal.read_head-before-requires
 read_head-before-requires c =
-    (bounds_at c.requires.0 c.requires.1 c.try_merge_next-merged.ensures).before ((ends_there c.requires.0 c.requires.1 c.try_merge_next-merged.ensures c.place_of-at.ensures (sym c.ends_at.ensures ∙ c.if-not-ends_at.false)))
+    let there =
+    ends_there c.requires.0 c.requires.1 c.try_merge_next-merged.ensures c.place_of-at.ensures
+    (sym c.ends_at.ensures ∙ c.if-not-ends_at.false) in
+    (bounds_at c.requires.0 c.requires.1 c.try_merge_next-merged.ensures).before there
 
 pub overflow_add-one : goal.overflow_add-one
 overflow_add-one c =
-    let fits = (bounds_at c.requires.0 c.requires.1 c.try_merge_next-merged.ensures).sum (ends_there c.requires.0 c.requires.1 c.try_merge_next-merged.ensures c.place_of-at.ensures (sym c.ends_at.ensures ∙ c.if-not-ends_at.false)) in
+    let there =
+    ends_there c.requires.0 c.requires.1 c.try_merge_next-merged.ensures c.place_of-at.ensures
+    (sym c.ends_at.ensures ∙ c.if-not-ends_at.false) in
+    let fits = (bounds_at c.requires.0 c.requires.1 c.try_merge_next-merged.ensures).sum there in
     rw c.read_head-before.ensures (omega arith)
 
 pub returns : goal.returns

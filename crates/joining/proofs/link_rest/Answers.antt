@@ -5,14 +5,17 @@ use Rattle.joining.proofs.Rest.{ends, rest_relinked}
 use Rattle.joining.proofs.link_rest.Goals as goal
 
 pub overflow_add-end : goal.overflow_add-end
-overflow_add-end c = let b = (ends c.requires.0 c.requires.1 c.requires.2) in omega arith
+overflow_add-end c =
+    let b = (ends c.requires.0 c.requires.1 c.requires.2) in omega arith
 
 pub overflow_add-addr : goal.overflow_add-addr
-overflow_add-addr c = let b = (ends c.requires.0 c.requires.1 c.requires.2) in
+overflow_add-addr c =
+    let b = (ends c.requires.0 c.requires.1 c.requires.2) in
     omega (arith, gap_le _ _ c.requires.3)
 
 pub remains-rest-requires : goal.remains-rest-requires
-remains-rest-requires c = let b = (ends c.requires.0 c.requires.1 c.requires.2) in
+remains-rest-requires c =
+    let b = (ends c.requires.0 c.requires.1 c.requires.2) in
     (omega arith, gap_le _ _ c.requires.3)
 
 pub link-requires : goal.link-requires

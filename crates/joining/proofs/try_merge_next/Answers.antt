@@ -13,13 +13,15 @@ addr_of-requires c = omega (arith, (c.requires).low c.if-hole-eq-NONE.false)
 
 pub returns-then-span-size : goal.returns-then-span-size
 unfolding merged_head
-returns-then-span-size c = rw (ne_eqb _ _ c.if-hole-eq-NONE.false, ne_eqb _ _ (rw c.addr_of.ensures at c.if-span-size.true))
+returns-then-span-size c =
+    rw (ne_eqb _ _ c.if-hole-eq-NONE.false, ne_eqb _ _ (rw c.addr_of.ensures at c.if-span-size.true))
 
 pub read_head-head-requires : goal.read_head-head-requires
 read_head-head-requires c = (c.requires).inside c.if-hole-eq-NONE.false
 
 pub overflow_add-result : goal.overflow_add-result
-overflow_add-result c = let fits = (c.requires).sum c.if-hole-eq-NONE.false in
+overflow_add-result c =
+    let fits = (c.requires).sum c.if-hole-eq-NONE.false in
     rw c.read_head-head.ensures (omega arith)
 
 pub returns : goal.returns

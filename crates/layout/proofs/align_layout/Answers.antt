@@ -10,13 +10,15 @@ use Rattle.rules.proofs.Layouts.{is_rounded, rounded_covers, layout_no_power, la
 use Rattle.layout.proofs.align_layout.Goals as goal
 
 pub returns-then-align-ne1 : goal.returns-then-align-ne1
-returns-then-align-ne1 c = let size = c.args.size in
+returns-then-align-ne1 c =
+    let size = c.args.size in
     let align = c.args.align in
     let l : align < 2 ^ width = omega arith in
     sym (layout_no_power size align (λ e. c.if-align-ne1.true (ones_in_lem width align l ∙ e)))
 
 pub returns-then-size-gt-ADDR_LIMIT : goal.returns-then-size-gt-ADDR_LIMIT
-returns-then-size-gt-ADDR_LIMIT c = let size = c.args.size in
+returns-then-size-gt-ADDR_LIMIT c =
+    let size = c.args.size in
     let align = c.args.align in
     sym (layout_large size align (omega (arith, rounded_covers size)))
 
@@ -24,19 +26,22 @@ pub align_up_size-rounded-requires : goal.align_up_size-rounded-requires
 align_up_size-rounded-requires c = (grain_power, search rules)
 
 pub overflow_sub-align : goal.overflow_sub-align
-overflow_sub-align c = let align = c.args.align in
+overflow_sub-align c =
+    let align = c.args.align in
     let l : align < 2 ^ width = omega arith in
     let e = sym (ones_in_lem width align l) ∙ c.if-align-ne1.false in
     power_half 63 (one_power_lem width align l e) l
 
 pub returns-then-align-rounded : goal.returns-then-align-rounded
-returns-then-align-rounded c = let size = c.args.size in
+returns-then-align-rounded c =
+    let size = c.args.size in
     let align = c.args.align in
     let r = is_rounded size c.at_least_min.ensures c.align_up_size-rounded.ensures in
     sym (layout_large size align (omega arith))
 
 pub returns : goal.returns
-returns c = let size = c.args.size in
+returns c =
+    let size = c.args.size in
     let align = c.args.align in
     let l : align < 2 ^ width = omega arith in
     let e = sym (ones_in_lem width align l) ∙ c.if-align-ne1.false in

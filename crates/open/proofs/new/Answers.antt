@@ -8,14 +8,18 @@ use Rattle.open.proofs.Begun.{is_bottom}
 use Rattle.open.proofs.new.Goals as goal
 
 pub align_up-bottom-requires : goal.align_up-bottom-requires
-align_up-bottom-requires c = (grain_power, omega (arith, ((may_open c.args.len c.args.base c.args.named c.requires)).low))
+align_up-bottom-requires c =
+    (grain_power, omega (arith, (may_open c.args.len c.args.base c.args.named c.requires).low))
 
 pub overflow_sub-left-2 : goal.overflow_sub-left-2
-overflow_sub-left-2 c = rw ((is_bottom c.args.base _ c.align_up-bottom.ensures)) (omega (arith, ((may_open c.args.len c.args.base c.args.named c.requires)).room))
+overflow_sub-left-2 c =
+    rw (is_bottom c.args.base _ c.align_up-bottom.ensures)
+    (omega (arith, (may_open c.args.len c.args.base c.args.named c.requires).room))
 
 pub overflow_add-result : goal.overflow_add-result
-overflow_add-result c = let o = (may_open c.args.len c.args.base c.args.named c.requires) in
-    rw ((is_bottom c.args.base _ c.align_up-bottom.ensures)) (omega (arith, o.room, o.within, o.low))
+overflow_add-result c =
+    let o = (may_open c.args.len c.args.base c.args.named c.requires) in
+    rw (is_bottom c.args.base _ c.align_up-bottom.ensures) (omega (arith, o.room, o.within, o.low))
 
 pub returns : goal.returns
 unfolding opened first_of

@@ -11,19 +11,30 @@ use Rattle.reports.proofs.Gathered.{survey_says, room_broken, room_told}
 use Rattle.reports.proofs.room.Goals as goal
 
 pub returns-in-No : goal.returns-in-No
-returns-in-No c = let s = c.args in
-    (requested_no s.h s.arena.now min_size s.align (room s.align) refl refl (sym c.check-asked.ensures.0 ∙ c.in-No.is)).answer
+returns-in-No c =
+    let s = c.args in
+    (requested_no s.h s.arena.now min_size s.align (room s.align) refl refl
+    (sym c.check-asked.ensures.0 ∙ c.in-No.is)).answer
 
 pub survey-found-requires : goal.survey-found-requires
-survey-found-requires c = let q = (let s = c.args in requested s.h s.arena.now min_size s.align (search rules) (sym c.check-asked.ensures.0 ∙ c.in_default.is)) in
+survey-found-requires c =
+    let s = c.args in
+    let q =
+    requested s.h s.arena.now min_size s.align (search rules) (sym c.check-asked.ensures.0 ∙ c.in_default.is) in
     (q.lent, record { power = q.asked.power; least = omega arith; room = omega (arith, q.asked.room, q.asked.least) })
 
 pub returns-in_default-found : goal.returns-in_default-found
-returns-in_default-found c = let s = c.args in
+returns-in_default-found c =
+    let s = c.args in
+    let q =
+    requested s.h s.arena.now min_size s.align (search rules) (sym c.check-asked.ensures.0 ∙ c.in_default.is) in
     sym (answer_refused (room s.align) s.h s.arena.now _
-    (room_broken _ _ ((let s = c.args in requested s.h s.arena.now min_size s.align (search rules) (sym c.check-asked.ensures.0 ∙ c.in_default.is))) (survey_says _ _ _ c.survey-found.ensures c.in_default-found.is)))
+    (room_broken _ _ q (survey_says _ _ _ c.survey-found.ensures c.in_default-found.is)))
 
 pub returns : goal.returns
-returns c = let s = c.args in
+returns c =
+    let s = c.args in
+    let q =
+    requested s.h s.arena.now min_size s.align (search rules) (sym c.check-asked.ensures.0 ∙ c.in_default.is) in
     sym (answer_told (room s.align) s.h s.arena.now _ []
-    (room_told _ _ ((let s = c.args in requested s.h s.arena.now min_size s.align (search rules) (sym c.check-asked.ensures.0 ∙ c.in_default.is))) (survey_says _ _ _ c.survey-found.ensures c.in-Of.is)))
+    (room_told _ _ q (survey_says _ _ _ c.survey-found.ensures c.in-Of.is)))

@@ -8,7 +8,8 @@ abbrev pub invariant-loop-at : goal.invariant-loop-at
 invariant-loop-at l =
     (l.from ≤ l.at)
     × (l.at ≤ length l.bytes)
-    × (come l.t l.arena l.line l.waiting ≡ heard (part l.from l.at l.bytes) (come l.initial.t l.initial.arena l.initial.line l.initial.waiting))
+    × (come l.t l.arena l.line l.waiting ≡ heard (part l.from l.at l.bytes)
+    (come l.initial.t l.initial.arena l.initial.line l.initial.waiting))
     × (l.t.kept ≤ line_room)
     × (l.t.waits ≤ answers_room)
     × ((l.t.waits ≤ longest) ⊎ (l.from < l.at))

@@ -16,5 +16,6 @@ loop-at-preserved c =
     let a = c.args in (
       h.ensures.to,
       search rules,
-      taken_on s.at h.result.to a.bytes.now (come a.first a.arena.now a.line.now a.waiting.now) _ _ h.ensures.from s.invariant.2 h.ensures.comes,
+      taken_on s.at h.result.to a.bytes.now (come a.first a.arena.now a.line.now a.waiting.now) _ _ h.ensures.from
+          s.invariant.2 h.ensures.comes,
     )

@@ -9,7 +9,8 @@ abbrev pub invariant-loop-at : goal.invariant-loop-at
 invariant-loop-at l =
     (l.at ≤ length l.bytes)
     × Settled l.t
-    × (taken (come l.t l.arena l.line l.waiting) ≡ taken (heard (part 0 l.at l.bytes) (come l.initial.t l.initial.arena l.initial.line l.initial.waiting)))
+    × (taken (come l.t l.arena l.line l.waiting) ≡ taken
+    (heard (part 0 l.at l.bytes) (come l.initial.t l.initial.arena l.initial.line l.initial.waiting)))
 
 abbrev pub decreases-loop-at : goal.decreases-loop-at
 decreases-loop-at l = length l.bytes - l.at

@@ -13,22 +13,46 @@ returns-in_default c = rw c.no_fit.ensures
     c.first_fit-found.result c.in_default.not-At c.first_fit-found.ensures)
 
 pub behind-floor-requires : goal.behind-floor-requires
-behind-floor-requires c = let f = c.requires.0.lent.fair in
-    omega (arith, ((inside c.args.h c.args.arena.now c.args.want c.args.align c.requires.0.lent.fair ((sym c.first_fit-found.ensures ∙ c.in-At.is)))).1)
+behind-floor-requires c =
+    let f = c.requires.0.lent.fair in
+    let found = sym c.first_fit-found.ensures ∙ c.in-At.is in
+    omega (arith, (inside c.args.h c.args.arena.now c.args.want c.args.align f found).1)
 
 pub walk-requires : goal.walk-requires
-walk-requires c = let a = asks c.args.h c.args.arena.now c.args.want c.args.align c.requires.0.lent.fair ((sym c.first_fit-found.ensures ∙ c.in-At.is)) in
+walk-requires c =
+    let found = sym c.first_fit-found.ensures ∙ c.in-At.is in
+    let a = asks c.args.h c.args.arena.now c.args.want c.args.align c.requires.0.lent.fair found in
     rw c.behind-floor.ensures (c.requires.0.lent, a.0, a.1)
 
 pub split_current-requires : goal.split_current-requires
-split_current-requires c = (record { ready = c.requires.0; sound = (goes_on c.args.h c.args.arena.now c.args.want c.args.align c.requires.0.lent.fair ((sym c.first_fit-found.ensures ∙ c.in-At.is)) (rw c.behind-floor.ensures at c.walk.ensures) ∙ sym c.adds_up.ensures) ∙ c.if-adds_up.true }, c.requires.1, (sym c.first_fit-found.ensures ∙ c.in-At.is))
+split_current-requires c =
+    let found = sym c.first_fit-found.ensures ∙ c.in-At.is in
+    let walked = rw c.behind-floor.ensures at c.walk.ensures in
+    let sound =
+    goes_on c.args.h c.args.arena.now c.args.want c.args.align c.requires.0.lent.fair found walked
+    ∙ sym c.adds_up.ensures
+    ∙ c.if-adds_up.true in
+    (record { ready = c.requires.0; sound = sound }, c.requires.1, found)
 
 pub returns-then-adds_up : goal.returns-then-adds_up
-returns-then-adds_up c = fulfils_sound c.args.h c.args.arena.now (holes c.args.h c.args.arena.now)
-    (takes c.args.want c.args.align c.args.h c.args.arena.now) ((goes_on c.args.h c.args.arena.now c.args.want c.args.align c.requires.0.lent.fair ((sym c.first_fit-found.ensures ∙ c.in-At.is)) (rw c.behind-floor.ensures at c.walk.ensures) ∙ sym c.adds_up.ensures) ∙ c.if-adds_up.true)
-    c.split_current.ensures
+returns-then-adds_up c =
+    let found = sym c.first_fit-found.ensures ∙ c.in-At.is in
+    let walked = rw c.behind-floor.ensures at c.walk.ensures in
+    let sound =
+    goes_on c.args.h c.args.arena.now c.args.want c.args.align c.requires.0.lent.fair found walked
+    ∙ sym c.adds_up.ensures
+    ∙ c.if-adds_up.true in
+    fulfils_sound c.args.h c.args.arena.now (holes c.args.h c.args.arena.now)
+    (takes c.args.want c.args.align c.args.h c.args.arena.now) sound c.split_current.ensures
 
 pub returns : goal.returns
-returns c = rw c.refuse.ensures
+returns c =
+    let found = sym c.first_fit-found.ensures ∙ c.in-At.is in
+    let walked = rw c.behind-floor.ensures at c.walk.ensures in
+    let sound =
+    goes_on c.args.h c.args.arena.now c.args.want c.args.align c.requires.0.lent.fair found walked
+    ∙ sym c.adds_up.ensures
+    ∙ c.if-adds_up.false in
+    rw c.refuse.ensures
     (fulfils_broken c.args.h c.args.arena.now (holes c.args.h c.args.arena.now)
-    (takes c.args.want c.args.align c.args.h c.args.arena.now) ((goes_on c.args.h c.args.arena.now c.args.want c.args.align c.requires.0.lent.fair ((sym c.first_fit-found.ensures ∙ c.in-At.is)) (rw c.behind-floor.ensures at c.walk.ensures) ∙ sym c.adds_up.ensures) ∙ c.if-adds_up.false))
+    (takes c.args.want c.args.align c.args.h c.args.arena.now) sound)

@@ -9,7 +9,8 @@ returns-in_default c = rw (not_full c.args.h c.args.found c.in_default.not-Nowhe
 
 pub returns-then-is_all_free : goal.returns-then-is_all_free
 unfolding no_fit
-returns-then-is_all_free c = rw (c.in-Nowhere.is, sym c.is_all_free.ensures ∙ c.if-is_all_free.true) c.refuse-then-is_all_free.ensures
+returns-then-is_all_free c =
+    rw (c.in-Nowhere.is, sym c.is_all_free.ensures ∙ c.if-is_all_free.true) c.refuse-then-is_all_free.ensures
 
 pub returns : goal.returns
 unfolding no_fit

@@ -4,5 +4,6 @@ use Rattle.c_face.proofs.Loaded.{reported}
 use Rattle.c_face.proofs.report.lantern_room.Goals as goal
 
 pub returns : goal.returns
-returns c = let s = c.args in
+returns c =
+    let s = c.args in
     reported s.heap.now c.load.ensures (room s.align) s.arena.now c.room.ensures c.tell.ensures

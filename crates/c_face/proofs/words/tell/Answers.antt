@@ -2,5 +2,6 @@
 use Rattle.c_face.proofs.words.tell.Goals as goal
 
 pub returns : goal.returns
-returns c = let e = c.answer_numbers-t.ensures in
+returns c =
+    let e = c.answer_numbers-t.ensures in
     (rw e, rw e)

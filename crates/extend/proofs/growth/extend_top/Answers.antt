@@ -10,28 +10,36 @@ use Rattle.extend.proofs.Extending.{top_sound, top_free, Fits, past_is, gathers_
 use Rattle.extend.proofs.growth.extend_top.Goals as goal
 
 pub returns-in_default : goal.returns-in_default
-returns-in_default c = let h = c.args.h in
+returns-in_default c =
+    let h = c.args.h in
     let m = c.args.arena.now in
     rw c.refuse.ensures
     (fulfils_broken h m (holes h m) (extending c.args.by h (holes h m))
     (near_broken h m h.top c.requires.lent.fair c.neighbours-spot.ensures c.in_default.is))
 
 pub returns-then-not-is_all_free : goal.returns-then-not-is_all_free
-returns-then-not-is_all_free c = let h = c.args.h in
+returns-then-not-is_all_free c =
+    let h = c.args.h in
     let m = c.args.arena.now in
+    let k = seeks c.requires.lent.fair c.neighbours-spot.ensures c.in-Between.is in
     rw c.refuse-then-not-is_all_free.ensures
-    (fulfils_broken h m (holes h m) (extending c.args.by h (holes h m)) ((top_sound ((seeks c.requires.lent.fair c.neighbours-spot.ensures c.in-Between.is)) ∙ sym c.is_all_free.ensures) ∙ c.if-not-is_all_free.true))
+    (fulfils_broken h m (holes h m) (extending c.args.by h (holes h m))
+    (top_sound k ∙ sym c.is_all_free.ensures ∙ c.if-not-is_all_free.true))
 
 pub overflow_sub-room-2 : goal.overflow_sub-room-2
-overflow_sub-room-2 c = let f = c.requires.lent.fair in omega arith
+overflow_sub-room-2 c =
+    let f = c.requires.lent.fair in omega arith
 
 pub returns-then-room-by : goal.returns-then-room-by
-returns-then-room-by c = let f = c.requires.lent.fair in
+returns-then-room-by c =
+    let f = c.requires.lent.fair in
     let l = c.if-room-by.true in
-    rw c.refuse-then-room-by.ensures (past_is c.args.h c.args.arena.now c.args.by c.requires (((top_sound ((seeks c.requires.lent.fair c.neighbours-spot.ensures c.in-Between.is)) ∙ sym c.is_all_free.ensures) ∙ c.if-not-is_all_free.false)) (omega arith))
+    let k = seeks c.requires.lent.fair c.neighbours-spot.ensures c.in-Between.is in
+    let sound = top_sound k ∙ sym c.is_all_free.ensures ∙ c.if-not-is_all_free.false in
+    rw c.refuse-then-room-by.ensures (past_is c.args.h c.args.arena.now c.args.by c.requires sound (omega arith))
 
 pub overflow_add-sum : goal.overflow_add-sum
-overflow_add-sum c = let f = c.requires.lent.fair in
+overflow_add-sum c =
     let f = c.requires.lent.fair in
     let l : Fits c.args.h c.args.by = omega (arith, c.if-room-by.false) in
     omega arith
@@ -40,17 +48,26 @@ pub gather-requires : goal.gather-requires
 gather-requires c = c.requires.lent.fair
 
 pub returns-then-sum-lt-MIN_SIZE : goal.returns-then-sum-lt-MIN_SIZE
-returns-then-sum-lt-MIN_SIZE c = rw c.gather.ensures
-    (gathers_is c.args.h c.args.arena.now c.args.by c.requires (((top_sound ((seeks c.requires.lent.fair c.neighbours-spot.ensures c.in-Between.is)) ∙ sym c.is_all_free.ensures) ∙ c.if-not-is_all_free.false)) ((let f = c.requires.lent.fair in let l = c.if-room-by.false in omega arith)) c.if-sum-lt-MIN_SIZE.true)
+returns-then-sum-lt-MIN_SIZE c =
+    let f = c.requires.lent.fair in
+    let l : Fits c.args.h c.args.by = omega (arith, c.if-room-by.false) in
+    let k = seeks c.requires.lent.fair c.neighbours-spot.ensures c.in-Between.is in
+    let sound = top_sound k ∙ sym c.is_all_free.ensures ∙ c.if-not-is_all_free.false in
+    rw c.gather.ensures (gathers_is c.args.h c.args.arena.now c.args.by c.requires sound l c.if-sum-lt-MIN_SIZE.true)
 
 pub grow-requires : goal.grow-requires
-grow-requires c = let f = c.requires.lent.fair in
+grow-requires c =
+    let f = c.requires.lent.fair in
     let l : Fits c.args.h c.args.by = omega (arith, c.if-room-by.false) in
-    let g = c.if-sum-lt-MIN_SIZE.false in (
-      record { ready = c.requires; sound = ((top_sound ((seeks c.requires.lent.fair c.neighbours-spot.ensures c.in-Between.is)) ∙ sym c.is_all_free.ensures) ∙ c.if-not-is_all_free.false) },
-      omega arith,
-      top_free ((seeks c.requires.lent.fair c.neighbours-spot.ensures c.in-Between.is)) (((top_sound ((seeks c.requires.lent.fair c.neighbours-spot.ensures c.in-Between.is)) ∙ sym c.is_all_free.ensures) ∙ c.if-not-is_all_free.false)) _ (omega arith) (omega arith),
-    )
+    let g = c.if-sum-lt-MIN_SIZE.false in
+    let k = seeks c.requires.lent.fair c.neighbours-spot.ensures c.in-Between.is in
+    let sound = top_sound k ∙ sym c.is_all_free.ensures ∙ c.if-not-is_all_free.false in
+    (record { ready = c.requires; sound = sound }, omega arith, top_free k sound _ (omega arith) (omega arith))
 
 pub returns : goal.returns
-returns c = grows_is c.args.h c.args.arena.now c.args.by c.requires (((top_sound ((seeks c.requires.lent.fair c.neighbours-spot.ensures c.in-Between.is)) ∙ sym c.is_all_free.ensures) ∙ c.if-not-is_all_free.false)) ((let f = c.requires.lent.fair in let l = c.if-room-by.false in omega arith)) c.if-sum-lt-MIN_SIZE.false c.grow.ensures
+returns c =
+    let f = c.requires.lent.fair in
+    let l : Fits c.args.h c.args.by = omega (arith, c.if-room-by.false) in
+    let k = seeks c.requires.lent.fair c.neighbours-spot.ensures c.in-Between.is in
+    let sound = top_sound k ∙ sym c.is_all_free.ensures ∙ c.if-not-is_all_free.false in
+    grows_is c.args.h c.args.arena.now c.args.by c.requires sound l c.if-sum-lt-MIN_SIZE.false c.grow.ensures

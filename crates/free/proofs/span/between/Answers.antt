@@ -10,14 +10,16 @@ pub overflow_sub-near : goal.overflow_sub-near
 overflow_sub-near c = c.requires.1.floor c.if-cursor.true
 
 pub returns-then-not-keeps_gap : goal.returns-then-not-keeps_gap
-returns-then-not-keeps_gap c = let a = c.args in
+returns-then-not-keeps_gap c =
+    let a = c.args in
     sym (between_low a.h a.near a.span c.if-cursor.true (sym c.keeps_gap.ensures ∙ c.if-not-keeps_gap.true))
 
 pub returns-then-hole : goal.returns-then-hole
 returns-then-hole c =
     let a = c.args in
     let b : keeps_before a.near a.span ≡ true = elim c.if-cursor.branch [
-      | then-cursor+else-not-keeps_gap w ↦ before_gap a.h a.near a.span (sym w.keeps_gap.ensures ∙ w.if-not-keeps_gap.false)
+      | then-cursor+else-not-keeps_gap w ↦ before_gap a.h a.near a.span
+          (sym w.keeps_gap.ensures ∙ w.if-not-keeps_gap.false)
       | else-cursor w ↦ before_none a.h a.near a.span w.if-cursor.false
     ] in
     sym (between_last a.h a.near a.span b c.if-hole.true)
@@ -29,7 +31,8 @@ pub returns : goal.returns
 returns c =
     let a = c.args in
     let b : keeps_before a.near a.span ≡ true = elim c.if-cursor.branch [
-      | then-cursor+else-not-keeps_gap w ↦ before_gap a.h a.near a.span (sym w.keeps_gap.ensures ∙ w.if-not-keeps_gap.false)
+      | then-cursor+else-not-keeps_gap w ↦ before_gap a.h a.near a.span
+          (sym w.keeps_gap.ensures ∙ w.if-not-keeps_gap.false)
       | else-cursor w ↦ before_none a.h a.near a.span w.if-cursor.false
     ] in
     c.keeps_gap-2.ensures ∙ rw c.addr_of.ensures (sym (between_from a.h a.near a.span b c.if-hole.false))

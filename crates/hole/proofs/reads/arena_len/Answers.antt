@@ -7,7 +7,8 @@ use borrow.Author.Rules.{rules}
 use Rattle.hole.proofs.reads.arena_len.Goals as goal
 
 pub returns-then-arena-eq0 : goal.returns-then-arena-eq0
-returns-then-arena-eq0 c = let m = c.args.arena.now in
+returns-then-arena-eq0 c =
+    let m = c.args.arena.now in
     (omega arith, λ j. let past : length m ≤ j = omega arith in omega (arith, get_or-eq_default m 0 past))
 
 pub returns : goal.returns

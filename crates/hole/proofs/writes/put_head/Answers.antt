@@ -6,6 +6,7 @@ use Rattle.rules.proofs.Heads.{head_part}
 use Rattle.hole.proofs.writes.put_head.Goals as goal
 
 pub returns : goal.returns
-returns c = let s = c.args in
+returns c =
+    let s = c.args in
     let sixteen : s.at.0 + 16 - s.at.0 ≡ 16 = omega arith in
     rw (c.make_hole.ensures, sixteen) (head_part s.arena.now s.at s.head)

@@ -24,12 +24,14 @@ pub loop-left-init : goal.loop-left-init
 loop-left-init c = (refl, omega arith, refl)
 
 pub loop-left-preserved : goal.loop-left-preserved
-loop-left-preserved c = let s = c.loop-left in (
-  step s.left s.m s.at s.rest (omega arith) ∙ s.invariant.0,
-  simp length-set (omega arith),
-  simp length-set (omega arith),
-)
+loop-left-preserved c =
+    let s = c.loop-left in (
+      step s.left s.m s.at s.rest (omega arith) ∙ s.invariant.0,
+      simp length-set (omega arith),
+      simp length-set (omega arith),
+    )
 
 pub returns : goal.returns
-returns c = let s = c.loop-left in
+returns c =
+    let s = c.loop-left in
     end s.left s.m s.at s.rest (omega arith) ∙ s.invariant.0

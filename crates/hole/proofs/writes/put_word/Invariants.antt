@@ -7,7 +7,9 @@ use Rattle.rules.specs.Words.{store}
 use Rattle.hole.proofs.writes.put_word.Given as goal
 
 abbrev pub invariant-loop-left : goal.invariant-loop-left
-invariant-loop-left l = (store l.left l.m l.at l.rest ≡ store 8 l.initial.m l.i l.x) × (l.at + l.left ≤ length l.m) × (length l.m ≡ length l.initial.m)
+invariant-loop-left l =
+    (store l.left l.m l.at l.rest ≡ store 8 l.initial.m l.i l.x) × (l.at + l.left ≤ length l.m) ×
+    (length l.m ≡ length l.initial.m)
 
 abbrev pub decreases-loop-left : goal.decreases-loop-left
 decreases-loop-left l = l.left

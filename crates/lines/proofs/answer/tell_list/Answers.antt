@@ -21,28 +21,47 @@ one-is : {t : Told} {a a' : Answer} → t ≡ told (answer_numbers a) → a ≡ 
 one-is e k = rw (e, k)
 
 -- and so is the line that is printed first
-first-is : {t : Told} {a a' : Answer} (out m : List ℕ) → t ≡ told (answer_numbers a) → a ≡ a' → out ≡ placed (line t.0 t.1 t.2) 0 m
+first-is : {t : Told} {a a' : Answer} (out m : List ℕ) → t ≡ told (answer_numbers a) → a ≡ a' → out ≡ placed
+    (line t.0 t.1 t.2) 0 m
     → take 35 out ≡ numbers_line (answer_numbers a')
 first-is out m e k p = rw (p, e, k) (line_front _ _ _ m)
 
 pub put_holes-requires : goal.put_holes-requires
-put_holes-requires c = let f = (listed_few c.args.h c.args.arena.now ((search rules)) ((one-is c.answer_numbers-t.ensures c.list-answer.ensures.0))) in
+put_holes-requires c =
+    let f = (listed_few c.args.h c.args.arena.now (search rules)
+    (one-is c.answer_numbers-t.ensures c.list-answer.ensures.0)) in
     (omega arith, omega arith, omega arith)
 
 pub overflow_add-result : goal.overflow_add-result
-overflow_add-result c = omega (arith, (listed_few c.args.h c.args.arena.now ((search rules)) ((one-is c.answer_numbers-t.ensures c.list-answer.ensures.0))))
+overflow_add-result c =
+    omega (
+      arith,
+      (listed_few c.args.h c.args.arena.now (search rules)
+          (one-is c.answer_numbers-t.ensures c.list-answer.ensures.0)),
+    )
 
 pub overflow_mul-result : goal.overflow_mul-result
-overflow_mul-result c = omega (arith, (listed_few c.args.h c.args.arena.now ((search rules)) ((one-is c.answer_numbers-t.ensures c.list-answer.ensures.0))))
+overflow_mul-result c =
+    omega (
+      arith,
+      (listed_few c.args.h c.args.arena.now (search rules)
+          (one-is c.answer_numbers-t.ensures c.list-answer.ensures.0)),
+    )
 
 pub returns : goal.returns
-returns c = let p = c.put_line in
+returns c =
+    let p = c.put_line in
     let s = c.args in
     let first = first-is p.new.out _ c.answer_numbers-t.ensures c.list-answer.ensures.0 p.ensures in
     let zeros = length-replicate {A = ℕ} most_holes 0 in (
       refl,
       rw c.put_holes.ensures
-          (list_printed s.h s.arena.now ((search rules)) ((one-is c.answer_numbers-t.ensures c.list-answer.ensures.0)) _ _ _ _ c.list-answer.ensures.1 zeros zeros
+          (list_printed s.h s.arena.now (search rules) (one-is c.answer_numbers-t.ensures c.list-answer.ensures.0) _ _
+          _ _ c.list-answer.ensures.1 zeros zeros
           p.new.out (omega arith) first),
-      omega (arith, (listed_few c.args.h c.args.arena.now ((search rules)) ((one-is c.answer_numbers-t.ensures c.list-answer.ensures.0)))),
+      omega (
+        arith,
+        (listed_few c.args.h c.args.arena.now (search rules)
+            (one-is c.answer_numbers-t.ensures c.list-answer.ensures.0)),
+      ),
     )

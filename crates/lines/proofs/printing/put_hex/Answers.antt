@@ -11,7 +11,8 @@ pub loop-left-init : goal.loop-left-init
 loop-left-init c = (refl, search rules, refl)
 
 pub loop-left-preserved : goal.loop-left-preserved
-loop-left-preserved c = let s = c.loop-left in
+loop-left-preserved c =
+    let s = c.loop-left in
     let at = c.args.at in (
       rw c.glyph_of.ensures (hex_on s.left s.rest at s.out (omega arith) (omega arith) ∙ s.invariant.0),
       simp length-set (omega arith),
@@ -19,6 +20,7 @@ loop-left-preserved c = let s = c.loop-left in
     )
 
 pub returns : goal.returns
-returns c = let s = c.loop-left in
+returns c =
+    let s = c.loop-left in
     let at = c.args.at in
     sym (hex_off s.left s.rest at s.out (omega arith)) ∙ s.invariant.0

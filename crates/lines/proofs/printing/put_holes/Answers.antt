@@ -10,12 +10,14 @@ use Rattle.lines.proofs.FromRows.{row_on, row_off}
 use Rattle.lines.proofs.printing.put_holes.Goals as goal
 
 pub loop-i-init : goal.loop-i-init
-loop-i-init c = let n = c.args.n in
+loop-i-init c =
+    let n = c.args.n in
     let e : n - 0 ≡ n = omega arith in
     (rw e, omega arith, refl, refl)
 
 pub loop-i-preserved : goal.loop-i-preserved
-loop-i-preserved c = let o = c.put_line in
+loop-i-preserved c =
+    let o = c.put_line in
     let s = c.loop-i in
     let a = c.args in
     let new = line 0x20 (get_or a.addrs.now s.i 0) (get_or a.sizes.now s.i 0) in
@@ -29,7 +31,8 @@ loop-i-preserved c = let o = c.put_line in
     )
 
 pub returns : goal.returns
-returns c = let s = c.loop-i in
+returns c =
+    let s = c.loop-i in
     let a = c.args in
     let e : a.n - s.i ≡ 0 = omega arith in
     sym (row_off (a.n - s.i) s.at (drop s.i a.addrs.now) (drop s.i a.sizes.now) s.out e) ∙ s.invariant.0

@@ -11,9 +11,11 @@ pub overflow_add-count : goal.overflow_add-count
 overflow_add-count c = omega (arith, c.count_of-count.ensures, count_most c.args.call)
 
 pub returns-then-line-count : goal.returns-then-line-count
-returns-then-line-count c = let s = c.args in
+returns-then-line-count c =
+    let s = c.args in
     c.made.ensures ∙ sym (right_length s.line.now s.call (rw (← c.count_of-count.ensures) c.if-line-count.true))
 
 pub returns : goal.returns
-returns c = let s = c.args in
+returns c =
+    let s = c.args in
     sym (other_length s.line.now s.call (rw (← c.count_of-count.ensures) c.if-line-count.false))

@@ -30,7 +30,15 @@ returns-in-6 c = rw (c.in-6.is, c.number_of-first.ensures)
 
 pub returns-in-7 : goal.returns-in-7
 unfolding form_of
-returns-in-7 c = rw (c.in-7.is, c.number_of-first.ensures, c.number_of-second.ensures, c.number_of-third.ensures, c.number_of-fourth.ensures)
+returns-in-7 c =
+    rw (
+      c.in-7.is,
+      c.number_of-first.ensures,
+      c.number_of-second.ensures,
+      c.number_of-third.ensures,
+      c.number_of-fourth.ensures,
+    )
 
 pub returns-in_default : goal.returns-in_default
-returns-in_default c = let call = c.args.call in rw (no_form forms call (search rules))
+returns-in_default c =
+    let call = c.args.call in rw (no_form forms call (search rules))

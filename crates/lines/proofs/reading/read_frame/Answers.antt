@@ -15,7 +15,9 @@ pub by_call-requires : goal.by_call-requires
 by_call-requires c = (sym c.all_digits.ensures ∙ c.if-all_digits.true)
 
 pub returns-then-all_digits : goal.returns-then-all_digits
-returns-then-all_digits c = rw (line_digits c.args.line.now ((sym c.all_digits.ensures ∙ c.if-all_digits.true)), ← c.number.ensures) c.by_call.ensures
+returns-then-all_digits c =
+    rw (line_digits c.args.line.now (sym c.all_digits.ensures ∙ c.if-all_digits.true), ← c.number.ensures)
+    c.by_call.ensures
 
 pub returns : goal.returns
 returns c = sym (line_other c.args.line.now (sym c.all_digits.ensures ∙ c.if-all_digits.false))

@@ -10,16 +10,20 @@ use Rattle.numbers.proofs.Refused.{refuses, refuses_if}
 use Rattle.numbers.proofs.checks.bad_opening.Goals as goal
 
 pub returns-then-base-eq0 : goal.returns-then-base-eq0
-returns-then-base-eq0 c = let s = c.args in refuses s.len s.base s.named (λ o. omega arith)
+returns-then-base-eq0 c =
+    let s = c.args in refuses s.len s.base s.named (λ o. omega arith)
 
 pub returns-then-len-gt-ARENA_LIMIT : goal.returns-then-len-gt-ARENA_LIMIT
-returns-then-len-gt-ARENA_LIMIT c = let s = c.args in refuses s.len s.base s.named (λ o. omega arith)
+returns-then-len-gt-ARENA_LIMIT c =
+    let s = c.args in refuses s.len s.base s.named (λ o. omega arith)
 
 pub returns-then-len-base : goal.returns-then-len-base
-returns-then-len-base c = let s = c.args in refuses s.len s.base s.named (λ o. omega arith)
+returns-then-len-base c =
+    let s = c.args in refuses s.len s.base s.named (λ o. omega arith)
 
 pub returns-then-len-named : goal.returns-then-len-named
-returns-then-len-named c = let s = c.args in refuses s.len s.base s.named (λ o. omega arith)
+returns-then-len-named c =
+    let s = c.args in refuses s.len s.base s.named (λ o. omega arith)
 
 pub align_up-requires : goal.align_up-requires
 align_up-requires c = (grain_power, search rules)
@@ -28,6 +32,7 @@ pub overflow_add-result : goal.overflow_add-result
 overflow_add-result c = omega (arith, above_near c.align_up.ensures)
 
 pub returns : goal.returns
-returns c = let u = above_is (power_pos grain_power) c.align_up.ensures in
+returns c =
+    let u = above_is (power_pos grain_power) c.align_up.ensures in
     let s = c.args in
     refuses_if s.len s.base s.named (λ e. omega (arith, ltb-false)) (λ o. omega (arith, le-ltb))

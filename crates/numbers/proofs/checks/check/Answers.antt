@@ -8,15 +8,18 @@ pub returns-then-h-eq0 : goal.returns-then-h-eq0
 returns-then-h-eq0 c = checked_3 _ _ c.if-h-eq0.true
 
 pub returns-then-len-h : goal.returns-then-len-h
-returns-then-len-h c = let s = c.args in
+returns-then-len-h c =
+    let s = c.args in
     checked_4 s.len s.h c.if-h-eq0.false (λ d. omega arith)
 
 pub returns-then-sound_numbers : goal.returns-then-sound_numbers
-returns-then-sound_numbers c = let s = c.args in
+returns-then-sound_numbers c =
+    let s = c.args in
     let e = sym c.sound_numbers.ensures ∙ c.if-sound_numbers.true in
     checked_fair s.len s.h c.if-h-eq0.false (omega arith) e
 
 pub returns : goal.returns
-returns c = let s = c.args in
+returns c =
+    let s = c.args in
     let e = sym c.sound_numbers.ensures ∙ c.if-sound_numbers.false in
     checked_5 s.len s.h c.if-h-eq0.false (omega arith) e

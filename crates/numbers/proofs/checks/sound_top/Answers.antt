@@ -20,5 +20,6 @@ pub returns-then-end-top : goal.returns-then-end-top
 returns-then-end-top c = broken _ (λ f. omega arith)
 
 pub returns : goal.returns
-returns c = let n = above_near c.requires.bottom in
+returns c =
+    let n = above_near c.requires.bottom in
     decides _ (λ e. omega (arith, leb-true)) (λ f. omega (arith, le-leb))

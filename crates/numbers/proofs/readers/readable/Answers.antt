@@ -6,7 +6,8 @@ use Rattle.numbers.proofs.Reading.{used_decides, unreadable_is}
 use Rattle.numbers.proofs.readers.readable.Goals as goal
 
 pub fair_size-requires : goal.fair_size-requires
-fair_size-requires c = let e = sym c.sound_numbers.ensures ∙ c.if-sound_numbers.true in
+fair_size-requires c =
+    let e = sym c.sound_numbers.ensures ∙ c.if-sound_numbers.true in
     omega (arith, sound_fair c.args.h e)
 
 pub returns-then-sound_numbers : goal.returns-then-sound_numbers

@@ -5,9 +5,11 @@ use Rattle.reports.proofs.gathering.ends_sound.Goals as goal
 
 pub returns-then-is_end : goal.returns-then-is_end
 unfolding ends_sound
-returns-then-is_end c = let e = sym c.is_end.ensures ∙ c.if-is_end.true in
+returns-then-is_end c =
+    let e = sym c.is_end.ensures ∙ c.if-is_end.true in
     c.is_all_free.ensures ∙ rw e
 
 pub returns : goal.returns
 unfolding ends_sound
-returns c = let e = sym c.is_end.ensures ∙ c.if-is_end.false in rw e
+returns c =
+    let e = sym c.is_end.ensures ∙ c.if-is_end.false in rw e

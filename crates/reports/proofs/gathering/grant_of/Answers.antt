@@ -7,14 +7,17 @@ use Rattle.reports.proofs.Gathered.{grant_none, grant_some}
 use Rattle.reports.proofs.gathering.grant_of.Goals as goal
 
 pub overflow_add-start : goal.overflow_add-start
-overflow_add-start c = let e = ap (λ (a : Addr). a.0) c.candidate-start.ensures in
+overflow_add-start c =
+    let e = ap (λ (a : Addr). a.0) c.candidate-start.ensures in
     let n = candidate_near c.requires.0.power c.args.hole.addr in
     omega arith
 
 pub returns-then-end-start : goal.returns-then-end-start
-returns-then-end-start c = let s = c.args in
+returns-then-end-start c =
+    let s = c.args in
     grant_none s.align s.hole c.candidate-start.ensures c.if-end-start.true
 
 pub returns : goal.returns
-returns c = let s = c.args in
+returns c =
+    let s = c.args in
     grant_some s.align s.hole c.candidate-start.ensures c.if-end-start.false

@@ -10,7 +10,9 @@ use Rattle.walk.proofs.Gathered.{Counting}
 use Rattle.reports.proofs.gathering.survey.Given as goal
 
 abbrev pub invariant-loop-hole : goal.invariant-loop-hole
-invariant-loop-hole l = (front : List Hole) × Counting never l.h l.arena l.at l.floor l.total l.count front × (l.largest ≡ largest_grant l.align front)
+invariant-loop-hole l =
+    (front : List Hole) × Counting never l.h l.arena l.at l.floor l.total l.count front ×
+    (l.largest ≡ largest_grant l.align front)
 
 abbrev pub decreases-loop-hole : goal.decreases-loop-hole
 decreases-loop-hole l = l.h.top.0 + min_size - l.floor.0

@@ -10,11 +10,13 @@ use Rattle.walk.proofs.ToEnd.{holes_sound}
 use Rattle.walk.proofs.to_end.is_sound.Goals as goal
 
 pub walk-requires : goal.walk-requires
-walk-requires c = let t = start c.args.h c.args.arena.now c.requires.fair in
+walk-requires c =
+    let t = start c.args.h c.args.arena.now c.requires.fair in
     rw c.first_floor.ensures (c.requires, omega (arith, t.bottom), t.low)
 
 pub returns : goal.returns
-returns c = let h = c.args.h in
+returns c =
+    let h = c.args.h in
     let m = c.args.arena.now in
     let t = start h m c.requires.fair in
     let floor = c.first_floor.ensures in

@@ -7,4 +7,5 @@ pub returns-then-offset-eq0 : goal.returns-then-offset-eq0
 returns-then-offset-eq0 c = aligned_candidate c.requires.0 c.args.addr (sym c.offset.ensures ∙ c.if-offset-eq0.true)
 
 pub returns : goal.returns
-returns c = raised_candidate c.requires.0 c.args.addr (λ e. c.if-offset-eq0.false (c.offset.ensures ∙ e)) c.align_up.ensures
+returns c =
+    raised_candidate c.requires.0 c.args.addr (λ e. c.if-offset-eq0.false (c.offset.ensures ∙ e)) c.align_up.ensures

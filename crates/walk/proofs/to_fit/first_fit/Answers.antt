@@ -10,10 +10,13 @@ use Rattle.walk.proofs.ToFit.{search_found, search_ended, search_broken}
 use Rattle.walk.proofs.to_fit.first_fit.Goals as goal
 
 pub loop-hole-init : goal.loop-hole-init
-loop-hole-init c = rw c.first_floor-floor.ensures (seeks (suits c.args.want c.args.align) c.args.h c.args.arena.now c.requires.0.fair)
+loop-hole-init c =
+    rw c.first_floor-floor.ensures
+    (seeks (suits c.args.want c.args.align) c.args.h c.args.arena.now c.requires.0.fair)
 
 pub returns-then-is_end : goal.returns-then-is_end
-returns-then-is_end c = search_ended _ _ c.loop-hole.invariant c.next-st.ensures (sym c.is_end.ensures ∙ c.if-is_end.true)
+returns-then-is_end c =
+    search_ended _ _ c.loop-hole.invariant c.next-st.ensures (sym c.is_end.ensures ∙ c.if-is_end.true)
 
 pub returns-in_default : goal.returns-in_default
 returns-in_default c = search_broken _ _ c.loop-hole.invariant c.next-st.ensures
@@ -26,14 +29,18 @@ pub overflow_add-count : goal.overflow_add-count
 overflow_add-count c = omega (arith, (turn_bounds c.loop-hole.invariant.counting.gone c.next-st.ensures c.in-At.is))
 
 pub suits-requires : goal.suits-requires
-suits-requires c = let b = (turn_bounds c.loop-hole.invariant.counting.gone c.next-st.ensures c.in-At.is) in
+suits-requires c =
+    let b = (turn_bounds c.loop-hole.invariant.counting.gone c.next-st.ensures c.in-At.is) in
     (search rules, omega arith, b.least)
 
 pub behind-floor-requires : goal.behind-floor-requires
-behind-floor-requires c = omega (arith, (turn_bounds c.loop-hole.invariant.counting.gone c.next-st.ensures c.in-At.is))
+behind-floor-requires c =
+    omega (arith, (turn_bounds c.loop-hole.invariant.counting.gone c.next-st.ensures c.in-At.is))
 
 pub loop-hole-smaller : goal.loop-hole-smaller
-loop-hole-smaller c = let b = (turn_bounds c.loop-hole.invariant.counting.gone c.next-st.ensures c.in-At.is) in rw c.behind-floor.ensures (omega arith)
+loop-hole-smaller c =
+    let b = (turn_bounds c.loop-hole.invariant.counting.gone c.next-st.ensures c.in-At.is) in
+    rw c.behind-floor.ensures (omega arith)
 
 pub loop-hole-preserved : goal.loop-hole-preserved
 loop-hole-preserved c = rw c.behind-floor.ensures

@@ -10,15 +10,19 @@ pub returns-then-size-want : goal.returns-then-size-want
 returns-then-size-want c = small_unsuited c.args.want c.requires.0.power c.args.hole c.if-size-want.true
 
 pub overflow_add-stop : goal.overflow_add-stop
-overflow_add-stop c = let e = ap (λ (a : Addr). a.0) c.candidate.ensures in
+overflow_add-stop c =
+    let e = ap (λ (a : Addr). a.0) c.candidate.ensures in
     let n = candidate_near c.requires.0.power c.args.hole.addr in
     omega arith
 
 pub returns-then-end-stop : goal.returns-then-end-stop
-returns-then-end-stop c = past_unsuited c.args.want c.requires.0.power c.args.hole c.candidate.ensures c.if-end-stop.true
+returns-then-end-stop c =
+    past_unsuited c.args.want c.requires.0.power c.args.hole c.candidate.ensures c.if-end-stop.true
 
 pub returns-then-stop-end : goal.returns-then-stop-end
-returns-then-stop-end c = filled_suits c.args.want c.requires.0.power c.args.hole c.candidate.ensures c.if-stop-end.true
+returns-then-stop-end c =
+    filled_suits c.args.want c.requires.0.power c.args.hole c.candidate.ensures c.if-stop-end.true
 
 pub returns : goal.returns
-returns c = left_suits c.args.want c.requires.0.power c.args.hole c.candidate.ensures c.if-end-stop.false c.if-stop-end.false
+returns c =
+    left_suits c.args.want c.requires.0.power c.args.hole c.candidate.ensures c.if-end-stop.false c.if-stop-end.false
