@@ -33,7 +33,7 @@ FILES = {
 ROOMS = {
     "rules": {"rules": "", "demands": "rules"},
     "lines": {"rules": "", "lines": "rules"},
-    "talk": {"rules": "", "lines": "rules", "talk": "rules lines"},
+    "talk": {"rules": "", "lines": "rules", "talk": "rules lines arrayvec memchr"},
     "c_face": {"rules": "", "c_face": "rules"},
 }
 STATED = {"lines": "Format", "talk": "Transcript", "c_face": "Statements"}
@@ -230,9 +230,14 @@ def sample(found, count, seed):
 
 
 def types(source):
-    """The types that a source file declares, and the modules below it, without any function."""
-    blocks = re.findall(r"^pub (?:enum|struct) .*?^}\n", source, re.M | re.S)
-    uses = re.findall(r"^use rules::\w+;\n", source, re.M) if blocks else []
+    """The types and constants that a source file declares, what they name of other files, and the modules below it, without any function."""
+    blocks = re.findall(r"^(?:pub )?const \w+: [^;]*?;\n|^pub (?:enum|struct) .*?^}\n", source, re.M | re.S)
+    named = set(re.findall(r"\w+", "".join(blocks)))
+    uses = []
+    for public, path, names in re.findall(r"^(pub )?use ([\w:]+)::(\w+|{[^}]*});\n", source, re.M):
+        kept = [n for n in re.findall(r"\w+", names) if n[0].isupper() and (public or n in named)]
+        if kept:
+            uses.append(f"{public}use {path}::{{{', '.join(kept)}}};\n")
     return "".join(re.findall(r"^(?:pub )?mod \w+;\n", source, re.M) + uses + blocks)
 
 

@@ -1,6 +1,7 @@
 // Rounding to an alignment: the leaves of the original's lib.rs. Each function asks for a power of
 // two, where the original panics: callers test the alignment first, and refuse with 6. An alignment
-// of 0, which the original passes through, is no power of two either.
+// of 0, which the original passes through, is no power of two either. The alignment stays a number with a
+// `requires`, as in the original: most callers pass 8.
 #![tactic(auto)]
 
 ghost use Rattle.std.specs.Prelude.{◌≡◌, ◌+◌, ◌%◌, ◌^◌, ◌≤◌};

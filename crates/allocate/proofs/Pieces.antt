@@ -1,13 +1,13 @@
 -- The hole that an allocation found, used and split: the few heads to be written are those of the new list. Assumes nothing.
 use mathlib.Core.Path.{◌≡◌, sym, ◌∙◌}
-use mathlib.Core.Bool.{false}
 use mathlib.Core.List.{List, ◌∷◌, ◌++◌}
 use Prim.Native.Nat.{ℕ, ◌+◌, ◌≤◌, ◌<◌}
 use native.Mathlib.Omega.{arith}
 use lib.ListN.{length}
+use Rattle.std.proofs.Common.{Ok, Option, None}
 use borrow.Author.Tests.{eq-eqb, ne_eqb}
 use Rattle.rules.specs.Fixed.{min_size, addr_limit}
-use Rattle.rules.specs.Kinds.{place_of, plus, none, is_none}
+use Rattle.rules.specs.Kinds.{place_of, plus, none}
 use Rattle.rules.specs.Holes.{end, first_of}
 use Rattle.rules.specs.Sound.{holes}
 use Rattle.rules.specs.Allocate.{candidate, remains, split}
@@ -18,7 +18,7 @@ use Rattle.rules.specs.declared.Hole.{Hole}
 use Rattle.rules.specs.declared.Heap.{Heap}
 use Rattle.rules.specs.declared.Write.{Write}
 use Rattle.rules.specs.declared.Answer.TheVariants.{Allocated}
-use Rattle.rules.specs.Inner.{first_or, put_heads_to, put, nothing, written, Inside, Fulfils, Rises, end_or}
+use Rattle.rules.specs.Inner.{first_or, put_heads_to, put, written, Lands, Fulfils, Rises, end_or}
 use Rattle.rules.proofs.Cases.{by_eq}
 use Rattle.rules.proofs.Powers.{power_pos}
 use Rattle.rules.proofs.Rises.{rises_le, rises_front, rises_back}
@@ -26,7 +26,8 @@ use Rattle.rules.proofs.Lists.{holds_split}
 use Rattle.rules.proofs.Relink.{put_append}
 use Rattle.rules.proofs.Used.{candidate_low, suits_fits, suits_leaves, used_rises, find_total}
 use Rattle.rules.proofs.Written.{fulfils_changed}
-use Rattle.walk.specs.Settled.{Asked}
+use Rattle.layout.specs.Asked.{Asked}
+use Rattle.layout.proofs.Aligned.{asked_power}
 use Rattle.walk.specs.declared.Fit.{Fit}
 use Rattle.walk.proofs.ToFit.{Fits}
 use Rattle.walk.specs.Settled.{Settled}
@@ -34,7 +35,7 @@ use Rattle.walk.proofs.Stands.{stands}
 use Rattle.joining.specs.declared.Relinked.{Relinked}
 use Rattle.joining.proofs.Linked.{Linked, Middle, last_inside, front_rises, first_on, keeps, links}
 use Rattle.joining.specs.Span.{remainder, leads_to}
-use Rattle.joining.proofs.Remainder.{remainder_none, remainder_some, remainder_put, remainder_first, remainder_inside}
+use Rattle.joining.proofs.Remainder.{remainder_none, remainder_some, remainder_put, remainder_first, remainder_lands}
 use Rattle.allocate.specs.Granted.{split_to, granted}
 
 -- ---- the hole that the search found
@@ -62,7 +63,7 @@ module _
     (fits : Fits h want align (holes h m) f)
   where
     pos : 0 < align
-    pos = power_pos asked.power
+    pos = power_pos (asked_power asked)
 
     listed : Rises h.bottom.0 h.top.0 (fits.front ++ (f.hole ∷ fits.back))
     listed = rw fits.list at (stands h m settled).rises
@@ -125,7 +126,7 @@ module _
           begins = s.first ∙ rw fits.list (sym (first_on h.base fits.front (k ∷ fits.back)));
         }
 
-    module _ {rear front : Write} {to : Place}
+    module _ {rear front : Option Write} {to : Place}
         (rear_is : rear ≡ remainder h.base stop (end f.hole) f.next)
         (to_is : to ≡ leads_to rear f.next)
         (front_is : front ≡ remainder h.base f.hole.addr start to)
@@ -133,25 +134,19 @@ module _
         abbrev List' : List Hole
         List' = fits.front ++ (split want align f.hole ++ fits.back)
 
-        end_low : (end f.hole).0 ≤ addr_limit
-        end_low = let r = room in omega arith
-
-        start_low : start.0 ≤ addr_limit
-        start_low = let r = room in omega arith
-
         to_behind : to ≡ first_or h.base behind (first_of h.base fits.back)
-        to_behind = to_is ∙ rw (rear_is, ← fits.next) (remainder_first h.base stop (end f.hole) f.next end_low room.stop)
+        to_behind = to_is ∙ rw (rear_is, ← fits.next) (remainder_first h.base stop (end f.hole) f.next)
 
-        rear_inside : Inside m rear.at
-        rear_inside =
+        rear_lands : Lands m rear
+        rear_lands =
             let r = room in
-            rw rear_is (remainder_inside h.base stop (end f.hole) f.next end_low r.stop m (λ n. let l = r.rear n in omega arith))
+            rw rear_is (remainder_lands h.base stop (end f.hole) f.next m (λ n. let l = r.rear n in omega arith))
 
         rear_put : put rear m ≡ put_heads_to h.base behind (first_of h.base fits.back) m
-        rear_put = rw (rear_is, ← fits.next) (remainder_put h.base stop (end f.hole) f.next end_low room.stop m)
+        rear_put = rw (rear_is, ← fits.next) (remainder_put h.base stop (end f.hole) f.next m)
 
         front_put : (w : List ℕ) → put front w ≡ put_heads_to h.base (remains f.hole.addr start) to w
-        front_put w = rw front_is (remainder_put h.base f.hole.addr start to start_low room.start w)
+        front_put w = rw front_is (remainder_put h.base f.hole.addr start to w)
 
         both_put : put front (put rear m) ≡ put_heads_to h.base (split want align f.hole) (first_of h.base fits.back) m
         unfolding split
@@ -170,9 +165,9 @@ module _
             let pieces : split want align f.hole ≡ behind = rw (eq-eqb f.hole.addr.0 start.0 e) in
             let to_first : to ≡ first_of h.base (split want align f.hole ++ fits.back) =
             to_behind ∙ rw pieces (first_on h.base behind fits.back) in
-            let front_none : front ≡ nothing = front_is ∙ remainder_none h.base f.hole.addr start to e in
+            let front_none : front ≡ None = front_is ∙ remainder_none h.base f.hole.addr start to e in
             rw (front_none, fits.prev, to_first)
-            (links fits.front middle rear rear_inside (rear_put ∙ rw pieces))
+            (links fits.front middle rear rear_lands (rear_put ∙ rw pieces))
 
         -- what remains in front stands where the hole stood
         a_front : (f.hole.addr.0 ≡ start.0 → ⊥) → Linked h.base m List' (split_to h.first m f.cursor.prev front rear to)
@@ -180,24 +175,24 @@ module _
         a_front n =
             let r = room in
             let front_some = front_is ∙ remainder_some h.base f.hole.addr start to n in
-            let some : is_none front.at ≡ false = rw front_some (ne_eqb (place_of h.base f.hole.addr).0 none.0 (λ z. omega arith)) in
             let leads : place_of h.base f.hole.addr ≡ first_of h.base (split want align f.hole ++ fits.back) =
             rw (ne_eqb f.hole.addr.0 start.0 n) in
-            let inside : Inside m front.at =
-            rw front_is (remainder_inside h.base f.hole.addr start to start_low r.start m (λ z. omega arith)) in
-            rw some (keeps middle leads (record { one = rear_inside; two = inside; arena = both_put }))
+            let lands : Lands m front = rw front_is (remainder_lands h.base f.hole.addr start to m (λ z. omega arith)) in
+            let list = keeps middle leads (record { one = rear_lands; two = lands; arena = both_put }) in
+            rw front_some (rw front_some at list)
 
         pub split_list : Linked h.base m List' (split_to h.first m f.cursor.prev front rear to)
         split_list = by_eq f.hole.addr.0 start.0 no_front a_front
 
     -- what the code makes of it, one after the other, is the outcome
-    pub split_is : {at : Addr} {rear front : Write} {to : Place} {r : Relinked}
+    pub split_is : {at : Addr} {rear front : Option Write} {to : Place} {r : Relinked}
         → at ≡ start
         → rear ≡ remainder h.base (plus at want) (end f.hole) f.next
         → to ≡ leads_to rear f.next
         → front ≡ remainder h.base f.hole.addr at to
         → r ≡ split_to h.first m f.cursor.prev front rear to
-        → Fulfils (granted want align h m) m
+        → Fulfils (granted want align h m) h m
+        (Ok
         (record {
           heap =
               record {
@@ -211,7 +206,7 @@ module _
               };
           answer = Allocated at f.count;
           heads = r.heads;
-        })
+        }))
     unfolding taken
     split_is i₁ i₂ i₃ i₄ i₅ =
         let count : f.count ≡ length fits.front + 1 = omega (arith, fits.counted) in

@@ -1,18 +1,13 @@
--- What an allocation decides: the refusal where no hole suits, and the hole that is used. Definitions only.
-use Rattle.std.specs.Prelude.{cond, List, ℕ, ◌+◌, eqb}
-use Rattle.rules.specs.Kinds.{is_none}
-use Rattle.rules.specs.Sound.{size, holes}
+-- What an allocation decides: what is said of it, and the hole that is used. Definitions only.
+use Rattle.std.specs.Prelude.{Option, Some, None, List, ℕ}
+use Rattle.rules.specs.Sound.{holes}
 use Rattle.rules.specs.Allocate.{find}
 use Rattle.rules.specs.Calls.{Outcome, taken}
 use Rattle.rules.specs.Outcome.{After, leaves}
 use Rattle.rules.specs.declared.Place.{Place}
 use Rattle.rules.specs.declared.Heap.{Heap}
 use Rattle.rules.specs.declared.Write.{Write}
-use Rattle.rules.specs.declared.Refusal.{Refusal}
-use Rattle.rules.specs.declared.Refusal.TheVariants.{NotSound, NoRoom}
 use Rattle.rules.specs.Inner.{sifted}
-use Rattle.walk.specs.declared.Search.{Search}
-use Rattle.walk.specs.declared.Search.TheVariants as search
 use Rattle.joining.specs.declared.Relinked.{Relinked}
 use Rattle.joining.specs.Span.{relinked, linked_to}
 
@@ -27,16 +22,9 @@ granted want align h m = leaves h m (takes want align h m)
 abbrev pub granted_if_sound : ℕ → ℕ → Heap → List ℕ → After
 granted_if_sound want align h m = leaves h m (sifted h (holes h m) (takes want align h m))
 
--- ---- no hole is used
-
--- why a search that found no hole is refused
-unfoldable pub no_fit : Heap → Search → Refusal
-no_fit h (search.At f) = NotSound
-no_fit h (search.Nowhere count total) = cond (eqb (total + h.used) (size h)) (NoRoom count) NotSound
-no_fit h search.Bad = NotSound
-
 -- ---- a hole is used
 
 -- what remains in front stands where the hole stood, or the hole before leads to what comes behind
-unfoldable pub split_to : Place → List ℕ → Place → Write → Write → Place → Relinked
-split_to first m prev front rear to = cond (is_none front.at) (linked_to first m prev to rear) (relinked first rear front)
+unfoldable pub split_to : Place → List ℕ → Place → Option Write → Option Write → Place → Relinked
+split_to first m prev None rear to = linked_to first m prev to rear
+split_to first m prev (Some front) rear to = relinked first rear (Some front)

@@ -3,4 +3,4 @@ use Rattle.rules.specs.Answers.{Numbers}
 use Rattle.answers.specs.declared.Told.{Told}
 
 abbrev pub told : Numbers → Told
-told n = record { 0 = n.no; 1 = n.one; 2 = n.two }
+told n = record { no = n.no; one = n.one; two = n.two }

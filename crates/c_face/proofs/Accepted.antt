@@ -27,7 +27,8 @@ use Rattle.rules.specs.Outcome.{outcome, after}
 use Rattle.rules.specs.InWords.{Valid, Hold, RoomAt, NoStart}
 use Rattle.rules.specs.Behaviour.{ours, Good}
 use Rattle.rules.specs.Statements.{Becomes, Granted}
-use Rattle.rules.proofs.Cases.{apart, by_le, or_left}
+use Rattle.std.proofs.lemmas.Bool.{or_parts}
+use Rattle.rules.proofs.Cases.{apart, by_le}
 use Rattle.rules.proofs.Multiples.{down_is}
 use Rattle.rules.proofs.Powers.{power_pos, grain_power}
 use Rattle.rules.proofs.Layouts.{layout_passed}
@@ -68,7 +69,7 @@ open_leaves base named s t z =
     let h = heap_of ws in
     let m = s.bytes in
     let p = accepted_passes c h m (sym t.shows.0.0 ∙ z) in
-    let unopened : h.bottom.0 ≡ 0 = eqb-true h.bottom.0 0 (not-false (eqb h.bottom.0 0) (or_left _ _ p.0)) in
+    let unopened : h.bottom.0 ≡ 0 = eqb-true h.bottom.0 0 (not-false (eqb h.bottom.0 0) (or_parts _ _ p.0).0) in
     let starts : NoStart (length m) base named → ⊥ = λ n. apart ((no_start (length m) (addr base) named).1 n) p.1.0 in
     let l = is_left base named in
     let e = open_does h m base named _ _ unopened starts l in
@@ -225,7 +226,7 @@ extend_leaves by s t z =
     let ks = holes h m in
     let sum = h.pending + by in
     let (g, p) = change_good (Change.extend by) s t z in
-    let l = ltb-false (h.base.0 + h.len) (h.top.0 + h.pending + by) (or_left _ _ p.0) in
+    let l = ltb-false (h.base.0 + h.len) (h.top.0 + h.pending + by) (or_parts _ _ p.0).0 in
     let held = good_holds ws m g in
     by_le 16 sum
     (λ large.

@@ -4,24 +4,25 @@ use mathlib.Core.List.{List, []}
 use Prim.Native.Nat.{ℕ}
 use native.Mathlib.Omega.{arith}
 use lib.ListN.{length}
+use Rattle.std.proofs.Common.{Result, Ok}
 use Rattle.rules.specs.declared.Heap.{Heap}
 use Rattle.rules.specs.declared.Refusal.{Refusal}
 use Rattle.rules.specs.declared.Refusal.TheVariants.{BadOpening, AlreadyOpened, Unopened, OtherLength, NotSound, BadLayout, NoRoom, BadSpan, PastArena, BadStretch}
 use Rattle.rules.specs.declared.Answer.{Answer}
-use Rattle.rules.specs.declared.Answer.TheVariants.{Opened, Allocated, Freed, Resized, Extended, Listed, Room, Refused}
+use Rattle.rules.specs.declared.Answer.TheVariants.{Opened, Allocated, Freed, Resized, Extended, Listed, Room}
 use Rattle.rules.specs.Sound.{holes}
 use Rattle.rules.specs.Changes.{Report}
 use Rattle.rules.specs.Calls.{Call, opening, change, report, list, Outcome, accepted}
 use Rattle.rules.specs.Answers.{answer_numbers, refusal_numbers}
 use Rattle.rules.specs.Refusals.{tests}
 use Rattle.rules.specs.Outcome.{outcome, leaves, after, Rows, rows, leaves_rows, rows_after}
-use Rattle.rules.proofs.Passes.{Passes, by_decided, Plain, by_change}
+use Rattle.rules.proofs.Passes.{Passes, by_decided, by_change}
 use Rattle.c_face.specs.Face.{heap_of, words_of}
 use Rattle.c_face.specs.Statements.{RefusedLeaves, RefusedTells, RefusedRows}
 use Rattle.c_face.proofs.Returned.{words_return}
 
 -- the number of an answer
-abbrev pub number_of : Answer → ℕ
+abbrev pub number_of : Result Answer Refusal → ℕ
 number_of a = (answer_numbers a).no
 
 refusal_above : (r : Refusal) → (refusal_numbers r).no ≡ 0 → ⊥
@@ -37,16 +38,15 @@ refusal_above BadSpan e = omega arith
 refusal_above PastArena e = omega arith
 refusal_above BadStretch e = omega arith
 
-plain_zero : (a : Answer) → Plain a → number_of a ≡ 0
+accepted_zero : (a : Answer) → number_of (Ok a) ≡ 0
 unfolding answer_numbers
-plain_zero (Opened a n) p = refl
-plain_zero (Allocated a n) p = refl
-plain_zero (Freed x y) p = refl
-plain_zero (Resized x y) p = refl
-plain_zero (Extended x y) p = refl
-plain_zero (Listed x y) p = refl
-plain_zero (Room x y) p = refl
-plain_zero (Refused r) p = absurd (p r refl)
+accepted_zero (Opened a n) = refl
+accepted_zero (Allocated a n) = refl
+accepted_zero (Freed x y) = refl
+accepted_zero (Resized x y) = refl
+accepted_zero (Extended x y) = refl
+accepted_zero (Listed x y) = refl
+accepted_zero (Room x y) = refl
 
 -- ---- a number other than 0 is a refusal's
 
@@ -59,7 +59,7 @@ module _ (P : Outcome → Type 0) (h : Heap) (m : List ℕ) (f : (r : Refusal) �
   unfolding accepted leaves answer_numbers
   accepted_else (opening base named) n = absurd (n refl)
   accepted_else (change x) n =
-      by_change Else h (holes h m) (λ r e k. f r) (λ a h' js b p k. absurd (k (plain_zero a p))) x (length m) n
+      by_change Else h (holes h m) (λ r e k. f r) (λ a h' js b k. absurd (k (accepted_zero a))) x (length m) n
   accepted_else (report Report.list) n = absurd (n refl)
   accepted_else (report (Report.room align)) n = absurd (n refl)
 

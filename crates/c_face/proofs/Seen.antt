@@ -3,6 +3,7 @@ use mathlib.Core.Path.{◌≡◌, sym, subst, ap, ◌∙◌}
 use mathlib.Core.List.{List, [], ◌∷◌}
 use Prim.Native.Nat.{ℕ}
 use lib.ListN.{length}
+use Rattle.std.proofs.Common.{Ok}
 use Rattle.rules.specs.declared.Hole.{Hole}
 use Rattle.rules.specs.declared.Heap.{Heap}
 use Rattle.rules.specs.declared.Answer.{Answer}
@@ -39,7 +40,7 @@ seen_of ws m a =
     }
 
 abbrev pub done_with : Answer → Heap → List Hole → List ℕ → After
-done_with a h ks m = record { answer = a; heap = h; arena = put_heads h.base ks m }
+done_with a h ks m = record { answer = Ok a; heap = h; arena = put_heads h.base ks m }
 
 meets_seen : (c : Call) (s : Seen) → Meets c s → s ≡ seen_of s.words s.bytes (after c (heap_of s.words) s.bytes)
 meets_seen c s t = rw (← t.shows.0.0, ← t.shows.0.1, ← t.shows.1, ← t.shows.2)

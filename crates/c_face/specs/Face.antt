@@ -1,13 +1,12 @@
 -- Heaps and answers as C sees them: seven words, and a number with two words. Definitions only.
-use Rattle.std.specs.Prelude.{◌≡◌, List, [], ◌∷◌, ℕ, get_or}
+use Rattle.std.specs.Prelude.{◌≡◌, Result, List, [], ◌∷◌, ℕ, get_or}
 use Rattle.rules.specs.Kinds.{addr, place, number, index}
 use Rattle.rules.specs.Answers.{answer_numbers}
 use Rattle.rules.specs.Calls as Calls
 use Rattle.rules.specs.Outcome.{After, after, Rows, rows_after}
-use Rattle.rules.specs.Inner.{written}
 use Rattle.rules.specs.declared.Heap.{Heap}
-use Rattle.rules.specs.declared.Decided.{Decided}
 use Rattle.rules.specs.declared.Answer.{Answer}
+use Rattle.rules.specs.declared.Refusal.{Refusal}
 
 -- base, arena length, bottom, top, first, pending, used
 abbrev pub heap_of : List ℕ → Heap
@@ -34,16 +33,12 @@ words_of h =
     ∷ []
 
 -- the number is the result, the two values are the answer's words
-abbrev pub Tells : Answer → ℕ → List ℕ → Type 0
+abbrev pub Tells : Result Answer Refusal → ℕ → List ℕ → Type 0
 Tells a r ws = (r ≡ (answer_numbers a).no) × (ws ≡ (answer_numbers a).one ∷ (answer_numbers a).two ∷ [])
 
 -- the result, the heap's words, the answer's words and the entire arena
 abbrev pub Shows : After → ℕ → List ℕ → List ℕ → List ℕ → Type 0
 Shows a r hs ws m = Tells a.answer r ws × (hs ≡ words_of a.heap) × (m ≡ a.arena)
-
--- a decision in words, with its heads written
-abbrev pub Carried : Decided → ℕ → List ℕ → List ℕ → List ℕ → List ℕ → Type 0
-Carried d r hs ws m m' = Tells d.answer r ws × (hs ≡ words_of d.heap) × (m' ≡ written d.heads m)
 
 -- the list of a heap on its arena, asked with these rows: the result, the answer's words and the rows as they are left
 abbrev pub Lists : Heap → List ℕ → Rows → ℕ → List ℕ → Rows → Type 0

@@ -3,23 +3,34 @@
 ghost use Rattle.rules.specs.Kinds.{addr};
 ghost use Rattle.rules.specs.Calls as Calls;
 ghost use Rattle.rules.specs.Outcome.{after};
-ghost use Rattle.rules.specs.Inner.{Inside};
-ghost use Rattle.c_face.specs.Face.{heap_of, Shows, Carried};
+ghost use Rattle.rules.specs.Inner.{Writable, carried};
+ghost use Rattle.c_face.specs.Face.{heap_of, Shows};
 
-use crate::words::{load, show};
+use crate::words::{load, store, tell};
 use hole::{arena_len, write};
-use rules::{Addr, Decided};
+use rules::{Addr, Decided, Refusal};
 
 // Puts what a call decided into the words of its heap and its answer, and then writes its heads. The words
 // go first: nothing tells the compiler that the lent arrays do not overlap, and a head stored before
-// them would keep every word of the heap alive through the search.
-fn carry_out(heap: &mut [u64; 7], arena: &mut [u8], answer: &mut [u64; 2], d: Decided) -> u64
-    requires { Inside arena.old d.heads.one.at × Inside arena.old d.heads.two.at }
-    ensures { Carried d result heap.new answer.new arena.old arena.new }
+// them would keep every word of the heap alive through the search. A refused call's heap keeps its words.
+fn carry_out(
+    heap: &mut [u64; 7],
+    arena: &mut [u8],
+    answer: &mut [u64; 2],
+    decided: Result<Decided, Refusal>,
+) -> u64
+    requires { Writable arena.old decided }
+    ensures { Shows (carried (heap_of heap.old) arena.old decided) result heap.new answer.new arena.new }
 {
-    let n = show(heap, answer, d);
-    write(arena, d);
-    n
+    match decided {
+        Ok(d) => {
+            store(heap, d.heap);
+            let n = tell(answer, Ok(d.answer));
+            write(arena, d.heads);
+            n
+        }
+        Err(r) => tell(answer, Err(r)),
+    }
 }
 
 // Opens the heap on the first `named` bytes of the arena. Bottom, size.

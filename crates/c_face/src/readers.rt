@@ -1,4 +1,4 @@
-// The exports that read the heap's numbers alone: the five readers of crate numbers.
+// The exports that read the heap's numbers alone: the five readers of crate numbers, one export each for C.
 ghost use Rattle.std.specs.Prelude.{◌≡◌};
 ghost use Rattle.rules.specs.Kinds.{number};
 ghost use Rattle.rules.specs.Readers.{bottom_of, top_of, size_of, used_of, free_of};

@@ -2,10 +2,10 @@
 ghost use Rattle.std.specs.Prelude.{◌≡◌};
 ghost use Rattle.c_face.specs.Face.{heap_of, words_of, Tells};
 
-use answers::answer_numbers;
-use rules::{Addr, Answer, Decided, Heap, Place};
+use answers::Told;
+use rules::{Addr, Answer, Heap, Place, Refusal};
 
-// The heap that seven words say.
+// The heap that seven words say. No `From`: neither type is this crate's.
 pub fn load(words: &[u64; 7]) -> Heap
     ensures { result ≡ heap_of words.now }
 {
@@ -21,7 +21,7 @@ pub fn load(words: &[u64; 7]) -> Heap
 }
 
 // The seven words of a heap.
-fn store(words: &mut [u64; 7], h: Heap)
+pub fn store(words: &mut [u64; 7], h: Heap)
     ensures { words.new ≡ words_of h }
 {
     *words = [
@@ -30,20 +30,10 @@ fn store(words: &mut [u64; 7], h: Heap)
 }
 
 // Puts the two values into the answer's words and gives the number.
-pub fn tell(answer: &mut [u64; 2], a: Answer) -> u64
+pub fn tell(answer: &mut [u64; 2], a: Result<Answer, Refusal>) -> u64
     ensures { Tells a result answer.new }
 {
-    let t = answer_numbers(a);
-    *answer = [t.1, t.2];
-    t.0
-}
-
-// Puts the heap and the answer that a call decided into their words, and gives the number.
-pub fn show(words: &mut [u64; 7], answer: &mut [u64; 2], d: Decided) -> u64
-    ensures { Tells d.answer result answer.new × (words.new ≡ words_of d.heap) }
-{
-    let heap = d.heap;
-    let said = d.answer;
-    store(words, heap);
-    tell(answer, said)
+    let t = Told::from(a);
+    *answer = [t.one, t.two];
+    t.no
 }

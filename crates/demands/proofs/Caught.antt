@@ -1,72 +1,67 @@
 -- What holds of each call of a behaviour that meets the statements: a refusal comes of no other outcome, the tests are made, a grant lies
 -- where demand 2 says, and a resize leaves what its statement says. Assumes nothing.
-use mathlib.Core.Path.{◌≡◌, sym, ap, subst, ◌∙◌}
+use mathlib.Core.Path.{◌≡◌, sym, ap, ◌∙◌}
 use mathlib.Core.List.{List, ◌∷◌, ◌++◌, Memᴰ}
 use mathlib.Core.Logic.{inr, ⊎_elim}
 use Prim.Native.Nat.{ℕ, ◌+◌, ◌-◌, ◌^◌, ◌≤◌}
 use native.Mathlib.Omega.{arith}
 use lib.ListN.{length, get_or}
+use Rattle.std.proofs.Common.{Result, Ok, Err}
 use Rattle.rules.specs.declared.Addr.{Addr}
 use Rattle.rules.specs.declared.Hole.{Hole}
 use Rattle.rules.specs.declared.Heap.{Heap}
 use Rattle.rules.specs.declared.Refusal.{Refusal}
 use Rattle.rules.specs.declared.Refusal.TheVariants.{AlreadyOpened, OtherLength, NotSound, BadLayout}
 use Rattle.rules.specs.declared.Answer.{Answer}
-use Rattle.rules.specs.declared.Answer.TheVariants.{Allocated, Refused}
+use Rattle.rules.specs.declared.Answer.TheVariants.{Allocated}
 use Rattle.rules.specs.Kinds.{addr}
-use Rattle.rules.specs.Sound.{holes}
 use Rattle.rules.specs.Allocate.{rounded}
 use Rattle.rules.specs.Changes.{Change, Report}
 use Rattle.rules.specs.Calls.{Call, opening, change, report, allocate, free, resize, list, Outcome, refused, told, done, accepted}
-use Rattle.rules.specs.Outcome.{outcome}
 use Rattle.rules.specs.InWords.{SoundHoles, Rounds, Valid, sum, Lies, RoomAt, Within, NoLayout, NoSpan, NoStretch}
 use Rattle.rules.specs.Runs.{Fits}
-use Rattle.rules.specs.Behaviour.{Behaviour, ours}
+use Rattle.rules.specs.Behaviour.{Behaviour}
 use Rattle.rules.specs.Statements.{Granted, Refitted, Statements, refusals_of}
 use Rattle.demands.specs.Frauds.{Wraps, Grant, UsedHole, Resizing, left, holes_before, holes_after}
 use Rattle.rules.proofs.Cases.{by_eq}
-use Rattle.rules.proofs.Passes.{by_decided, Plain, by_change}
+use Rattle.rules.proofs.Passes.{by_change}
 use Rattle.rules.proofs.SoundWords.{rounded_rounds, rounds_rounded}
 use Rattle.rules.proofs.TestWords.{no_layout}
-use Rattle.rules.proofs.Statements.{statements}
 use Rattle.demands.proofs.OneList.{one_place}
 use Rattle.demands.proofs.Verdict.{entry, Before}
-use Rattle.demands.proofs.Settles.{decide, valid, by_room, settled, no_rows}
+use Rattle.demands.proofs.Settles.{decide, valid, by_room, no_rows}
 use Rattle.demands.proofs.Determined.{by_outcome}
 
 -- ---- a refusal
 
 -- an answer that comes of no refusal is none
+abbrev Plain : Result Answer Refusal → Type 0
+Plain a = (r : Refusal) → a ≡ Err r → ⊥
+
 abbrev Accepts : Outcome → Type 0
 Accepts (refused r) = Unit {0}
-Accepts (told a ks) = Plain a
-Accepts (done a h ks) = Plain a
+Accepts (told a ks) = Plain (Ok a)
+Accepts (done a h ks) = Plain (Ok a)
 
 accepted_accepts : (c : Call) (len : ℕ) (h : Heap) (ks : List Hole) → Accepts (accepted c len h ks)
 unfolding accepted
-accepted_accepts (opening base named) len h ks = λ r e. let z : ◌≡◌ {A = ℕ} 0 1 = cc in omega arith
-accepted_accepts (change c) len h ks = by_change Accepts h ks (λ r e. tt) (λ a h' js e p. p) c len
-accepted_accepts (report Report.list) len h ks = λ r e. let z : ◌≡◌ {A = ℕ} 0 1 = cc in omega arith
-accepted_accepts (report (Report.room align)) len h ks = λ r e. let z : ◌≡◌ {A = ℕ} 0 1 = cc in omega arith
-
-outcome_accepts : (c : Call) (h : Heap) (m : List ℕ) → Accepts (outcome c h m)
-unfolding outcome
-outcome_accepts c h m =
-    by_decided Accepts c (length m) h (holes h m) (λ r. tt) (λ p. accepted_accepts c (length m) h (holes h m))
+accepted_accepts (opening base named) len h ks = λ r e. cc
+accepted_accepts (change c) len h ks = by_change Accepts h ks (λ r e. tt) (λ a h' js e r q. cc) c len
+accepted_accepts (report Report.list) len h ks = λ r e. cc
+accepted_accepts (report (Report.room align)) len h ks = λ r e. cc
 
 -- a size to which 7 cannot be added in 64 bits is too large for any alignment
 too_large : (s align : ℕ) → 2 ^ 64 ≤ s + 7 → NoLayout s align
 too_large s align w = inr (rounded s, rounded_rounds s, omega (arith, w, (rounded_rounds s).covers))
 
 module _ (b : Behaviour) (sb : Statements b) where
-  pub refused_of : (c : Call) (h : Heap) (m : List ℕ) (r : Refusal) → Fits c → (b.after c h m).answer ≡ Refused r
+  pub refused_of : (c : Call) (h : Heap) (m : List ℕ) (r : Refusal) → Fits c → (b.after c h m).answer ≡ Err r
       → b.outcome c h m ≡ refused r
   refused_of c h m r f e =
-      let plain : Accepts (b.outcome c h m) = subst Accepts (settled ours b statements sb h m c f) (outcome_accepts c h m) in
       by_outcome (b.outcome c h m)
       (λ x p. let q = (sb.refusals_keep c h m no_rows x p).0 in let s : x ≡ r = cc in p ∙ ap refused s)
-      (λ a ks p. absurd ((rw p at plain) r (sym (sb.tells_only c h m a ks p).0 ∙ e)))
-      (λ a h' ks p. absurd ((rw p at plain) r (sym (sb.memory c h m a h' ks f p).0 ∙ e)))
+      (λ a ks p. let q = (sb.tells_only c h m a ks p).0 in cc)
+      (λ a h' ks p. let q = (sb.memory c h m a h' ks f p).0 in cc)
 
   -- ---- the tests
 
@@ -74,11 +69,11 @@ module _ (b : Behaviour) (sb : Statements b) where
   pub not_swapped : (c : Call) (h : Heap) (m : List ℕ) → Fits c → h.bottom.0 ≡ 0 → b.outcome c h m ≡ refused OtherLength → ⊥
   not_swapped (opening base named) h m f z e =
       let d = (sb.refusals_exactly (opening base named) h m f).1 (λ n. n z) in
-      d.1 (λ n. let p = d.0 n in let z : ◌≡◌ {A = ℕ} 0 1 = cc in omega arith) OtherLength e
+      d.1 (λ n. let p = d.0 n in cc) OtherLength e
   not_swapped (change c) h m f z e =
-      let p = (sb.refusals_exactly (change c) h m f).0 z in let z : ◌≡◌ {A = ℕ} 0 1 = cc in omega arith
+      let p = (sb.refusals_exactly (change c) h m f).0 z in cc
   not_swapped (report r) h m f z e =
-      let p = (sb.refusals_exactly (report r) h m f).0 z in let z : ◌≡◌ {A = ℕ} 0 1 = cc in omega arith
+      let p = (sb.refusals_exactly (report r) h m f).0 z in cc
 
   -- an opened heap whose sizes do not add up is refused, whatever the call
   module _ (h : Heap) (m : List ℕ) (open' : h.bottom.0 ≡ 0 → ⊥) (n : sum (b.holes h m) + h.used ≡ h.top.0 - h.bottom.0 → ⊥) where
@@ -115,14 +110,14 @@ module _ (b : Behaviour) (sb : Statements b) where
   -- ---- a grant
 
   granted_of : (s align : ℕ) (h : Heap) (m : List ℕ) (x n : ℕ) → Fits (allocate s align)
-      → (b.after (allocate s align) h m).answer ≡ Allocated (addr x) n
+      → (b.after (allocate s align) h m).answer ≡ Ok (Allocated (addr x) n)
       → (r : ℕ) × Rounds s r × SoundHoles h (b.holes h m)
       × (g : Granted r align h (b.holes h m) (b.outcome (allocate s align) h m)) × (g.at ≡ x) × (length g.front + 1 ≡ n)
   granted_of s align h m x n f e =
       let c = allocate s align in
       let d = sb.refusals_exactly c h m f in
       let never : (y : Refusal) → b.outcome c h m ≡ refused y → ⊥ =
-      λ y p. let q = (sb.refusals_keep c h m no_rows y p).0 in let z : ◌≡◌ {A = ℕ} 0 1 = cc in omega arith in
+      λ y p. let q = (sb.refusals_keep c h m no_rows y p).0 in cc in
       entry b b sb sb h m
       (λ y p q. absurd (never y (p _ _ d)))
       (λ p q good good' same.
@@ -218,7 +213,7 @@ module _ (b : Behaviour) (sb : Statements b) where
         let m = g.arena in
         let d = sb.refusals_exactly call h m g.fits in
         let never : (y : Refusal) → b.outcome call h m ≡ refused y → ⊥ =
-        λ y p. let q = (sb.refusals_keep call h m no_rows y p).0 in let e = g.answer in let z : ◌≡◌ {A = ℕ} 0 1 = cc in omega arith in
+        λ y p. let q = (sb.refusals_keep call h m no_rows y p).0 in let e = g.answer in cc in
         entry b b sb sb h m
         (λ y p q. absurd (never y (p _ _ d)))
         (λ p q good good' same.

@@ -5,11 +5,13 @@ use mathlib.Core.Bool.{cond}
 use mathlib.Core.List.Memᴰ
 use mathlib.Core.List.{List, [], ◌∷◌}
 use mathlib.Core.Logic.{inl}
+use Rattle.std.proofs.Common.{Result, Ok}
 use Prim.Native.Nat.{ℕ, ◌+◌, ◌≤◌, ◌%◌}
 use native.Mathlib.Omega.{arith}
 use lib.Dec.{eqb}
 use Rattle.rules.specs.declared.Hole.{Hole}
 use Rattle.rules.specs.declared.Heap.{Heap}
+use Rattle.rules.specs.declared.Refusal.{Refusal}
 use Rattle.rules.specs.declared.Answer.{Answer}
 use Rattle.rules.specs.declared.Answer.TheVariants.{Allocated, Freed, Resized}
 use Rattle.rules.specs.Kinds.{addr}
@@ -44,15 +46,15 @@ abbrev pub early : Behaviour
 early = bent half ours.holes ours.after
 
 -- one answer to all calls, which change nothing
-abbrev pub answering : List Hole → Answer → Behaviour
+abbrev pub answering : List Hole → Result Answer Refusal → Behaviour
 answering ks a = bent unopened (λ h m. ks) (λ c h m. record { answer = a; heap = h; arena = m })
 
 -- one answer to all calls, which leave a heap of their own
-abbrev pub leaving : Answer → (Call → Heap) → Behaviour
+abbrev pub leaving : Result Answer Refusal → (Call → Heap) → Behaviour
 leaving a left = bent unopened (λ h m. []) (λ c h m. record { answer = a; heap = left c; arena = m })
 
 -- one answer to all calls, which leave these bytes
-abbrev pub writing : Answer → List ℕ → Behaviour
+abbrev pub writing : Result Answer Refusal → List ℕ → Behaviour
 writing a w = bent unopened (λ h m. []) (λ c h m. record { answer = a; heap = h; arena = w })
 
 -- all that is named lies below top
@@ -73,10 +75,10 @@ all_below (report r) = unopened
 -- after a free the next grant is one byte behind what was given back
 abbrev past : Call → Heap → List ℕ → After
 past (opening base named) h m = ours.after (opening base named) h m
-past (change (Change.allocate s align)) h m = record { answer = Allocated (addr h.used) 1; heap = h; arena = m }
+past (change (Change.allocate s align)) h m = record { answer = Ok (Allocated (addr h.used) 1); heap = h; arena = m }
 past (change (Change.free x s align)) h m =
     record {
-      answer = Freed 16 0;
+      answer = Ok (Freed 16 0);
       heap =
           record {
             base = h.base;
@@ -113,12 +115,12 @@ holding used =
 abbrev pub refits : ℕ → List Hole → Behaviour
 refits q js =
     bent unopened (λ h m. cond (eqb h.used 16) halves js)
-    (λ c h m. record { answer = Resized q q; heap = holding q; arena = m })
+    (λ c h m. record { answer = Ok (Resized q q); heap = holding q; arena = m })
 
 -- ---- what the frauds lean on
 
 -- a grant to all who ask
-abbrev pub granted : (ks : List Hole) (s at count : ℕ) → s ≤ 24 → Grant (answering ks (Allocated (addr at) count))
+abbrev pub granted : (ks : List Hole) (s at count : ℕ) → s ≤ 24 → Grant (answering ks (Ok (Allocated (addr at) count)))
 granted ks s at count l =
     record {
       size = s;
@@ -133,7 +135,7 @@ granted ks s at count l =
 
 -- the first of the two holes is the one that it uses
 abbrev pub uses_low : (s at count : ℕ) (l : s ≤ 24) → Within 0x1008 24 at
-    → UsedHole (answering halves (Allocated (addr at) count)) (granted halves s at count l)
+    → UsedHole (answering halves (Ok (Allocated (addr at) count))) (granted halves s at count l)
 uses_low s at count l w =
     record { front = []; hole = hole (addr 0x1008) 24; back = hole (addr 0x1030) 24 ∷ []; one = refl; inside = w }
 
@@ -151,7 +153,7 @@ round s e l = record { multiple = e; covers = omega arith; sixteen = l; least = 
 
 -- the held block resized to q bytes
 abbrev pub refit : {b : Behaviour} (q : ℕ) → q % 8 ≡ 0 → 16 ≤ q → q ≤ 40
-    → (b.after (resize (addr 0x1020) 16 16 q) half stage).answer ≡ Resized q q → Resizing b
+    → (b.after (resize (addr 0x1020) 16 16 q) half stage).answer ≡ Ok (Resized q q) → Resizing b
 refit q e l t a =
     record {
       at = addr 0x1020;

@@ -2,14 +2,14 @@
 use mathlib.Core.Path.{◌≡◌, refl, sym, ◌∙◌}
 use mathlib.Core.List.{List}
 use Prim.Native.Nat.{ℕ, ◌-◌, ◌≤◌, min}
-use native.Mathlib.Omega.{arith}
 use lib.ListN.{length}
+use Rattle.std.proofs.Common.{Result, Ok, Err}
 use Rattle.rules.specs.declared.Hole.{Hole}
 use Rattle.rules.specs.declared.Heap.{Heap}
 use Rattle.rules.specs.declared.Refusal.{Refusal}
 use Rattle.rules.specs.declared.Refusal.TheVariants.{BadOpening, AlreadyOpened, Unopened, OtherLength, NotSound, BadLayout, NoRoom, BadSpan, PastArena, BadStretch}
 use Rattle.rules.specs.declared.Answer.{Answer}
-use Rattle.rules.specs.declared.Answer.TheVariants.{Opened, Allocated, Freed, Resized, Extended, Listed, Room, Refused}
+use Rattle.rules.specs.declared.Answer.TheVariants.{Opened, Allocated, Freed, Resized, Extended, Listed, Room}
 use Rattle.rules.specs.Kinds.{addr, place}
 use Rattle.rules.specs.Changes.{Report}
 use Rattle.rules.specs.Calls.{Call, opening, change, report, list, room, Outcome, refused, told, done}
@@ -19,7 +19,8 @@ use Rattle.rules.specs.Runs.{Fits, Reader}
 use Rattle.rules.specs.Behaviour.{Behaviour}
 use Rattle.rules.specs.Statements.{SoundMeans, RefusalNumbers, UnopenedIs, Reads, ReadersDo, Statements, Determined}
 use Rattle.rules.specs.Inner.{Bytes}
-use Rattle.rules.proofs.Cases.{by_eq, iff}
+use Rattle.std.specs.Cmp.{both_ways}
+use Rattle.rules.proofs.Cases.{by_eq}
 use Rattle.demands.proofs.OneMemory.{one_memory}
 use Rattle.demands.proofs.OneRow.{one_row}
 use Rattle.demands.proofs.Verdict.{same_holes, entry}
@@ -28,7 +29,7 @@ use Rattle.demands.proofs.Settles.{no_rows, settled}
 -- ---- numbers
 
 module _ (b e : Behaviour) where
-  refusal_same : RefusalNumbers b → RefusalNumbers e → (r : Refusal) → b.answer_numbers (Refused r) ≡ e.answer_numbers (Refused r)
+  refusal_same : RefusalNumbers b → RefusalNumbers e → (r : Refusal) → b.answer_numbers (Err r) ≡ e.answer_numbers (Err r)
   refusal_same p q BadOpening = p.one ∙ sym q.one
   refusal_same p q AlreadyOpened = p.two ∙ sym q.two
   refusal_same p q Unopened = p.three ∙ sym q.three
@@ -40,15 +41,15 @@ module _ (b e : Behaviour) where
   refusal_same p q PastArena = p.nine ∙ sym q.nine
   refusal_same p q BadStretch = p.ten ∙ sym q.ten
 
-  answer_same : Statements b → Statements e → (a : Answer) → b.answer_numbers a ≡ e.answer_numbers a
-  answer_same p q (Opened a n) = p.answer_numbers.opens a n ∙ sym (q.answer_numbers.opens a n)
-  answer_same p q (Allocated a n) = p.answer_numbers.allocates a n ∙ sym (q.answer_numbers.allocates a n)
-  answer_same p q (Freed x y) = p.answer_numbers.frees x y ∙ sym (q.answer_numbers.frees x y)
-  answer_same p q (Resized x y) = p.answer_numbers.resizes x y ∙ sym (q.answer_numbers.resizes x y)
-  answer_same p q (Extended x y) = p.answer_numbers.extends x y ∙ sym (q.answer_numbers.extends x y)
-  answer_same p q (Listed x y) = p.answer_numbers.lists x y ∙ sym (q.answer_numbers.lists x y)
-  answer_same p q (Room x y) = p.answer_numbers.reports x y ∙ sym (q.answer_numbers.reports x y)
-  answer_same p q (Refused r) = refusal_same p.refusal_numbers q.refusal_numbers r
+  answer_same : Statements b → Statements e → (a : Result Answer Refusal) → b.answer_numbers a ≡ e.answer_numbers a
+  answer_same p q (Ok (Opened a n)) = p.answer_numbers.opens a n ∙ sym (q.answer_numbers.opens a n)
+  answer_same p q (Ok (Allocated a n)) = p.answer_numbers.allocates a n ∙ sym (q.answer_numbers.allocates a n)
+  answer_same p q (Ok (Freed x y)) = p.answer_numbers.frees x y ∙ sym (q.answer_numbers.frees x y)
+  answer_same p q (Ok (Resized x y)) = p.answer_numbers.resizes x y ∙ sym (q.answer_numbers.resizes x y)
+  answer_same p q (Ok (Extended x y)) = p.answer_numbers.extends x y ∙ sym (q.answer_numbers.extends x y)
+  answer_same p q (Ok (Listed x y)) = p.answer_numbers.lists x y ∙ sym (q.answer_numbers.lists x y)
+  answer_same p q (Ok (Room x y)) = p.answer_numbers.reports x y ∙ sym (q.answer_numbers.reports x y)
+  answer_same p q (Err r) = refusal_same p.refusal_numbers q.refusal_numbers r
 
   reads_same : {h : Heap} {lo hi s u f : ℕ} → Reads b h lo hi s u f → Reads e h lo hi s u f → (x : Reader) → b.reading x h ≡ e.reading x h
   reads_same p q Reader.bottom = p.bottom ∙ sym q.bottom
@@ -68,7 +69,7 @@ module _ (b e : Behaviour) where
       absurd (n (reads_same ((p h).1 unread) ((q h).1 unread) x)))
 
   sound_same : SoundMeans b → SoundMeans e → (h : Heap) (ks : List Hole) → b.sound h ks ≡ e.sound h ks
-  sound_same p q h ks = iff (λ t. (q h ks).1 ((p h ks).0 t)) (λ t. (p h ks).1 ((q h ks).0 t))
+  sound_same p q h ks = both_ways _ _ (λ t. (q h ks).1 ((p h ks).0 t)) (λ t. (p h ks).1 ((q h ks).0 t))
 
   unopened_same : UnopenedIs b → UnopenedIs e → b.unopened ≡ e.unopened
   unopened_same p q =
@@ -111,10 +112,10 @@ module _ (b e : Behaviour) (sb : Statements b) (se : Statements e) (h : Heap) (m
   other_rows c n = sb.other_rows c h m r n ∙ sym (se.other_rows c h m r n)
 
   rows_same : (c : Call) → b.rows_after c h m r ≡ e.rows_after c h m r
-  rows_same (opening base named) = other_rows (opening base named) (λ k. let z : ◌≡◌ {A = ℕ} 0 1 = cc in omega arith)
-  rows_same (change c) = other_rows (change c) (λ k. let z : ◌≡◌ {A = ℕ} 0 1 = cc in omega arith)
+  rows_same (opening base named) = other_rows (opening base named) (λ k. cc)
+  rows_same (change c) = other_rows (change c) (λ k. cc)
   rows_same (report Report.list) = list_rows
-  rows_same (report (Report.room align)) = other_rows (room align) (λ k. let z : ◌≡◌ {A = ℕ} 0 1 = cc in omega arith)
+  rows_same (report (Report.room align)) = other_rows (room align) (λ k. cc)
 
 -- ---- answer, heap and arena
 

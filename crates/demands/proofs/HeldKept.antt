@@ -24,7 +24,8 @@ use Rattle.rules.specs.Refusals.{refusal6, change_tests, tests}
 use Rattle.rules.specs.Answers.{answer_numbers}
 use Rattle.rules.specs.Runs.{Fits, Ask, calls, reads, AllFit, Block, block, same_block, without, Box, start, held_after, comes_to, box_after, next_box, ends, HonestCall, Honest}
 use Rattle.rules.specs.InWords.{Valid}
-use Rattle.rules.proofs.Cases.{by_test, apart, or_left, all_each, each_all}
+use Rattle.std.proofs.lemmas.Bool.{cond_both, or_parts}
+use Rattle.rules.proofs.Cases.{apart, all_each, each_all}
 use Rattle.rules.proofs.Layouts.{rounded_multiple, rounded_least, layout_passed}
 use Rattle.rules.proofs.Gaps.{gap_words}
 use Rattle.rules.proofs.ResizeWords.{resize_added}
@@ -63,8 +64,8 @@ without_cover : (y : ℕ) (b : Block) (bs : List Block) → Memᴰ b bs
 unfolding without added
 without_cover y b [] m = absurd (Memᴰ.not-nil m)
 without_cover y b (c ∷ cs) m =
-    by_test (λ (ds : List Block). cover y (spans ds) + once y (span b) ≡ once y (span c) + cover y (spans cs)) (same_block b c) cs
-    (c ∷ without b cs)
+    cond_both (same_block b c) cs (c ∷ without b cs)
+    (λ (ds : List Block). cover y (spans ds) + once y (span b) ≡ once y (span c) + cover y (spans cs))
     (λ e. rw (same_block_lem b c e) (omega arith))
     (λ e.
     ⊎_elim
@@ -76,7 +77,7 @@ without_member : (b : Block) (bs : List Block) (k : Block) → Memᴰ k (without
 unfolding without
 without_member b [] k = λ m. m
 without_member b (c ∷ cs) k =
-    by_test (λ (ds : List Block). Memᴰ k ds → Memᴰ k (c ∷ cs)) (same_block b c) cs (c ∷ without b cs)
+    cond_both (same_block b c) cs (c ∷ without b cs) (λ (ds : List Block). Memᴰ k ds → Memᴰ k (c ∷ cs))
     (λ e m. Memᴰ.tail m)
     (λ e m. ⊎_elim (λ q. Memᴰ.head q) (λ t. Memᴰ.tail (without_member b cs k t)) (Memᴰ.cases_cons m))
 
@@ -155,7 +156,7 @@ module _ (b : Box) (settled : Settled b) where
       let held = t _ _ _ refl in
       let g = hole x (rounded s) in
       let suited = settled.each (block x s align) held in
-      let d = gap_words (plus x (rounded q)) (stretch_end g b.holes) (not-false _ (or_left _ _ p.1.1.1.0)) in
+      let d = gap_words (plus x (rounded q)) (stretch_end g b.holes) (not-false _ (or_parts _ _ p.1.1.1.0).0) in
       record {
         filled =
             λ y.
@@ -177,7 +178,7 @@ module _ (b : Box) (settled : Settled b) where
       let h = b.heap in
       let f = st.ruled.fair in
       let s = down_to grain (h.pending + by) in
-      by_test (λ (o : Outcome). Settled (box_after (extend by) b o)) (ltb (h.pending + by) min_size) _ _
+      cond_both (ltb (h.pending + by) min_size) _ _ (λ (o : Outcome). Settled (box_after (extend by) b o))
       (λ e. record { filled = settled.filled; each = settled.each })
       (λ e.
       let size : (h.top.0 - h.bottom.0) + s ≡ h.top.0 + s - h.bottom.0 = omega arith in

@@ -20,7 +20,8 @@ use Rattle.rules.specs.Outcome.{decided, outcome, after, Rows}
 use Rattle.rules.specs.InWords.{end_of, Sound, NoSpan}
 use Rattle.rules.specs.Runs.{Fits, Ask, calls, reads, AllFit, Block, Box, start, comes_to, box_after, next_box, ends}
 use Rattle.rules.specs.Statements.{Occupied, Tiles, HeldTile, HeldIsFreed, HeldUntouched}
-use Rattle.rules.proofs.Cases.{by_le, or_left}
+use Rattle.std.proofs.lemmas.Bool.{or_parts}
+use Rattle.rules.proofs.Cases.{by_le}
 use Rattle.rules.proofs.Layouts.{rounded_least}
 use Rattle.rules.proofs.SoundWords.{rounded_rounds}
 use Rattle.rules.proofs.TestWords.{means_fails, no_span}
@@ -124,8 +125,8 @@ module _ (h : Heap) (ks : List Hole) where
   accepted_based : (c : Call) (len : ℕ) → (h.bottom.0 ≡ 0 → ⊥) → Passes (tests c len h ks) → Based h (accepted c len h ks)
   unfolding tests accepted
   accepted_based (opening base named) len n p =
-      absurd (n (eqb-true h.bottom.0 0 (not-false (same h.bottom (addr 0)) (or_left _ _ p.0))))
-  accepted_based (change c) len n p = by_change (Based h) h ks (λ r e. tt) (λ a h' js e p. e) c len
+      absurd (n (eqb-true h.bottom.0 0 (not-false (same h.bottom (addr 0)) (or_parts _ _ p.0).0)))
+  accepted_based (change c) len n p = by_change (Based h) h ks (λ r e. tt) (λ a h' js e. e) c len
   accepted_based (report r) len n p = tt
 
   decided_based : (c : Call) (len : ℕ) → (h.bottom.0 ≡ 0 → ⊥) → Based h (decided c len h ks)

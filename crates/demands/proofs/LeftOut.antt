@@ -21,7 +21,8 @@ use Rattle.rules.specs.Calls.{renewed}
 use Rattle.rules.specs.InWords.{Gap, SoundHoles, Sound}
 use Rattle.rules.specs.Inner.{Rises}
 use Rattle.demands.specs.LeftOut.{near_top, to_top, check_merge_top, near_bottom, to_bottom, check_merge_bottom, TopMerged, BottomMerged, Merges, Harmless}
-use Rattle.rules.proofs.Cases.{by_eq, by_test, apart, all_each, each_all}
+use Rattle.std.proofs.lemmas.Bool.{cond_both}
+use Rattle.rules.proofs.Cases.{by_eq, apart, all_each, each_all}
 use Rattle.rules.proofs.Multiples.{up_is, above_is}
 use Rattle.rules.proofs.Gaps.{eights_gap}
 use Rattle.rules.proofs.Rises.{rises_le, sound_rises}
@@ -42,7 +43,7 @@ is_hole p q = λ i. hole (p i) (q i)
 top_merged : (top : Addr) (k : Hole) → TopMerged top k (to_top top k)
 unfolding to_top
 top_merged top k =
-    by_test (TopMerged top k) (all (near_top top k)) _ _
+    cond_both (all (near_top top k)) _ _ (TopMerged top k)
     (λ e.
     let r = all_each (near_top top k) e in
     record {
@@ -65,7 +66,7 @@ top_merged top k =
 bottom_merged : (bottom : Addr) (k : Hole) → BottomMerged bottom k (to_bottom bottom k)
 unfolding to_bottom
 bottom_merged bottom k =
-    by_test (BottomMerged bottom k) (all (near_bottom bottom k)) _ _
+    cond_both (all (near_bottom bottom k)) _ _ (BottomMerged bottom k)
     (λ e.
     let r = all_each (near_bottom bottom k) e in
     record { near = λ o n q. (refl, omega arith); far = λ f. absurd (omega (arith, ltb-true)) })

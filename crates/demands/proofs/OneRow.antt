@@ -66,7 +66,7 @@ no_larger b e h m align x y same p q =
     let (v, g) = q.some (λ z. omega (arith, z)) in
     let no = p.above y y v l in
     let yes = same y (omega (arith, v.room), v.fits) ∙ g.answer in
-    let z : ◌≡◌ {A = ℕ} 0 1 = cc in absurd (omega arith))
+    cc)
 
 pub one_largest : (b e : Behaviour) (h : Heap) (m : List ℕ) (align x y : ℕ)
     → ((s : ℕ) → Fits (allocate s align) → b.outcome (allocate s align) h m ≡ e.outcome (allocate s align) h m)

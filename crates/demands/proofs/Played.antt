@@ -19,7 +19,8 @@ use Rattle.rules.specs.Sound.{holes}
 use Rattle.rules.specs.Calls.{Call}
 use Rattle.rules.specs.Outcome.{after, Rows, rows_after}
 use Rattle.rules.specs.Runs.{Reader, reading, Ask, calls, reads, Told, answers, says, Kept, Run, end, own, other, asked}
-use Rattle.rules.proofs.Cases.{by_eq, and_left, and_right, all_each}
+use Rattle.std.proofs.lemmas.Bool.{and_parts}
+use Rattle.rules.proofs.Cases.{by_eq, all_each}
 
 -- ---- a test for what others may write
 
@@ -33,8 +34,8 @@ unfolding agree
 agree_same zero i m w e j l g = absurd (omega arith)
 agree_same (suc n) i m w e j l g =
     by_eq i j
-    (λ q. rw (← q) (eqb-true (get_or m i 0) (get_or w i 0) (and_left (eqb (get_or m i 0) (get_or w i 0)) _ e)))
-    (λ q. agree_same n (i + 1) m w (and_right (eqb (get_or m i 0) (get_or w i 0)) _ e) j (omega arith) (omega arith))
+    (λ q. rw (← q) (eqb-true (get_or m i 0) (get_or w i 0) (and_parts (eqb (get_or m i 0) (get_or w i 0)) _ e).0))
+    (λ q. agree_same n (i + 1) m w (and_parts (eqb (get_or m i 0) (get_or w i 0)) _ e).1 j (omega arith) (omega arith))
 
 -- the heads of the holes are
 unfoldable pub heads_agree : Addr → List Hole → List ℕ → List ℕ → Bool
@@ -48,8 +49,8 @@ heads_kept base [] m w e k d = absurd (Memᴰ.not-nil d)
 heads_kept base (j ∷ js) m w e k d =
     let here = agree 16 (bytes_to base j.addr) m w in
     ⊎_elim
-    (λ (q : k ≡ j). rw q (agree_same 16 (bytes_to base j.addr) m w (and_left here _ e)))
-    (λ (t : Memᴰ k js). heads_kept base js m w (and_right here _ e) k t)
+    (λ (q : k ≡ j). rw q (agree_same 16 (bytes_to base j.addr) m w (and_parts here _ e).0))
+    (λ (t : Memᴰ k js). heads_kept base js m w (and_parts here _ e).1 k t)
     (Memᴰ.cases_cons d)
 
 abbrev pub keeps : Heap → List ℕ → List ℕ → Bool

@@ -8,8 +8,6 @@ use lib.Count.{ones_in}
 use lib.ListN.{get_or, take, drop, replicate, get_or-replicate}
 use Rattle.rules.specs.declared.Hole.{Hole}
 use Rattle.rules.specs.declared.Heap.{Heap}
-use Rattle.rules.specs.declared.Refusal.{Refusal}
-use Rattle.rules.specs.declared.Answer.{Answer}
 use Rattle.rules.specs.Kinds.{addr, place}
 use Rattle.rules.specs.Words.{word, store}
 use Rattle.rules.specs.Holes.{hole, head_at, put_head, holes_from, first_of, put_heads, total}
@@ -17,7 +15,7 @@ use Rattle.rules.specs.Sound.{unopened, sound_numbers, gap, lie, rise, leave_bef
 use Rattle.rules.specs.Allocate.{rounded, candidate, suits, later, find, grant_of, largest_grant, remains, split}
 use Rattle.rules.specs.Free.{in_front, freed, overlaps, eight_to_hole}
 use Rattle.rules.specs.Resize.{stretch_end, rest_in_front, resized}
-use Rattle.rules.specs.Calls.{Call, allocate, list, refused, done, opened, taken, given, refitted, grown, gathered, extended, accepted}
+use Rattle.rules.specs.Calls.{Call, allocate, list, opened, taken, given, refitted, grown, gathered, extended, accepted}
 use Rattle.rules.specs.Readers.{read_addr}
 use Rattle.rules.specs.Refusals.{tests, unless}
 use Rattle.rules.specs.Answers.{answer_numbers}
@@ -72,14 +70,11 @@ last =
       used = 16;
     }
 
-never {ℓ} : {X : Type ℓ} {r : Refusal} {a : Answer} {h : Heap} {ks : List Hole} → refused r ≡ done a h ks → X
-never e = let z : ◌≡◌ {A = ℕ} 0 1 = cc in absurd (omega arith)
-
 -- the two frees and the two resizes that are accepted name a held block, whatever comes after the story
 honest : (asks : List Ask) → Honest asks (ends (story rows_one) start) → Honest (story rows_one ++ asks) start
 unfolding ones_in first_of total sound_numbers gap lie rise leave_before leave_after sound_holes sound rounded candidate suits later find grant_of largest_grant remains split in_front freed overlaps eight_to_hole stretch_end rest_in_front resized opened taken given refitted grown gathered extended accepted tests unless decided same_block without answer_numbers held_after box_after next_box ends
 honest asks p =
-    (tt, (tt, (tt, (tt, (tt, (tt, (λ a h ks e. Memᴰ.tail (Memᴰ.head refl), (λ a h ks e. Memᴰ.head refl, (tt, (λ a h ks e. Memᴰ.head refl, (λ a h ks e. Memᴰ.head refl, (λ a h ks e. never e, (tt, (tt, (λ a h ks e. never e, (tt, (tt, (tt, (tt, (tt, (tt, (tt, (tt, p)))))))))))))))))))))))
+    (tt, (tt, (tt, (tt, (tt, (tt, (λ a h ks e. Memᴰ.tail (Memᴰ.head refl), (λ a h ks e. Memᴰ.head refl, (tt, (λ a h ks e. Memᴰ.head refl, (λ a h ks e. Memᴰ.head refl, (λ a h ks e. cc, (tt, (tt, (λ a h ks e. cc, (tt, (tt, (tt, (tt, (tt, (tt, (tt, (tt, p)))))))))))))))))))))))
 
 boxes : Boxes
 unfolding ones_in word store head_at put_head holes_from first_of put_heads total sound_numbers gap lie rise leave_before leave_after sound_holes sound holes rounded candidate suits later find grant_of largest_grant remains split in_front freed overlaps eight_to_hole stretch_end rest_in_front resized opened taken given refitted grown gathered extended accepted tests unless decided outcome leaves after over in_rows leaves_rows rows_after read_addr reading agree heads_agree lawful play unlike writes same_block without answer_numbers held_after box_after next_box ends

@@ -26,7 +26,8 @@ use Rattle.rules.specs.Outcome.{decided, outcome, leaves, after, Rows, rows_afte
 use Rattle.rules.specs.InWords.{Sound}
 use Rattle.rules.specs.Runs.{Fits, Reader, reading, Ask, calls, reads, AllFit, Told, answers, says, Kept, Run, end, own, other, asked, Box, start, comes_to, box_after, answer_of, next_box, tell_box, tells, ends}
 use Rattle.rules.specs.Statements.{FollowsFromCalls, NeverUnsound}
-use Rattle.rules.proofs.Cases.{cases, by_eq, by_test, apart}
+use Rattle.std.proofs.lemmas.Bool.{cond_both}
+use Rattle.rules.proofs.Cases.{cases, by_eq, apart}
 use Rattle.rules.proofs.Lists.{SameHeads, frame}
 use Rattle.rules.proofs.Decide.{unless_3, unless_4, rest, Opens, decided_later}
 use Rattle.rules.proofs.SoundWords.{ruled_words}
@@ -200,7 +201,7 @@ unless_spare : (ts : List Test) (o : Outcome) → Spare ts → NoFive o → NoFi
 unfolding unless
 unless_spare [] o s n = n
 unless_spare (t ∷ ts) o s n =
-    by_test NoFive (any t.«exactly_if») (refused t.gives) (unless ts o) (λ e. s.0) (λ e. unless_spare ts o s.1 n)
+    cond_both (any t.«exactly_if») (refused t.gives) (unless ts o) NoFive (λ e. s.0) (λ e. unless_spare ts o s.1 n)
 
 change_spare : (c : Change) (h : Heap) (ks : List Hole) → Spare (change_tests c h ks)
 unfolding refusal_numbers
@@ -219,7 +220,7 @@ rest_spare : (c : Call) (n : ℕ) (h : Heap) (ks : List Hole) → NoFive (unless
 unfolding unless accepted
 rest_spare (opening base named) n h ks = tt
 rest_spare (change c) n h ks =
-    unless_spare (change_tests c h ks) _ (change_spare c h ks) (by_change NoFive h ks (λ r e. e) (λ a h' js e p. tt) c n)
+    unless_spare (change_tests c h ks) _ (change_spare c h ks) (by_change NoFive h ks (λ r e. e) (λ a h' js e. tt) c n)
 rest_spare (report r) n h ks = unless_spare (report_tests r) _ (report_spare r) tt
 
 later_spare : (c : Call) (n : ℕ) (b : Box) → Opens c ≡ false → Whole b → NoFive (comes_to c n b)

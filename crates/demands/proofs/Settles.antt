@@ -1,6 +1,7 @@
 -- What comes of a call is settled by the statements: two behaviours that meet them come to the same, call by call. Assumes nothing.
 use mathlib.Core.Path.{◌≡◌, refl, sym, subst, ◌∙◌}
 use mathlib.Core.Bool.{Bool}
+use Rattle.std.proofs.Common.{Decides}
 use mathlib.Core.List.Memᴰ
 use mathlib.Core.List.{List, []}
 use mathlib.Core.Logic.{inl, inr, ⊎_elim}
@@ -25,7 +26,7 @@ use Rattle.rules.proofs.Cases.{cases, by_eq, by_le, apart}
 use Rattle.rules.proofs.Multiples.{down_is}
 use Rattle.rules.proofs.Powers.{power_pos, grain_power}
 use Rattle.rules.proofs.SoundWords.{rounded_rounds, rounds_rounded, words_fair, words_holes, is_left}
-use Rattle.rules.proofs.TestWords.{Means, means_power, no_start, no_layout, no_span}
+use Rattle.rules.proofs.TestWords.{means_power, no_start, no_layout, no_span}
 use Rattle.rules.specs.Holes.{hole}
 use Rattle.rules.proofs.Walk.{floor_of, sound_walk}
 use Rattle.rules.proofs.ResizeWords.{no_stretch}
@@ -38,7 +39,7 @@ use Rattle.demands.proofs.Verdict.{entry}
 -- ---- what can be told apart
 
 -- a test decides what it means
-pub decide : {P X : Type 0} {t : Bool} → Means t P → (P → X) → ((P → ⊥) → X) → X
+pub decide : {P X : Type 0} {t : Bool} → Decides t P → (P → X) → ((P → ⊥) → X) → X
 decide {t = t} m so else = cases t (λ e. so (m.0 e)) (λ e. else (λ p. apart (m.1 p) e))
 
 -- what is not refused for its layout is valid

@@ -4,9 +4,11 @@ use mathlib.Core.Bool.{true}
 use mathlib.Core.List.{List, [], ◌∷◌}
 use Prim.Native.Nat.{ℕ, ◌+◌, ◌<◌}
 use native.Mathlib.Omega.{arith}
+use Rattle.std.proofs.Common.{Result, Ok}
 use lib.Count.{ones_in}
 use lib.ListN.{length, get_or, get_or-replicate, get_or-eq_default}
 use Rattle.rules.specs.declared.Heap.{Heap}
+use Rattle.rules.specs.declared.Refusal.{Refusal}
 use Rattle.rules.specs.declared.Answer.{Answer}
 use Rattle.rules.specs.declared.Answer.TheVariants.{Opened, Allocated, Freed, Resized, Extended, Listed, Room}
 use Rattle.rules.specs.Kinds.{addr}
@@ -75,29 +77,29 @@ growing = resize (addr 0x1020) 16 16 40
 -- ---- ours
 
 pub record Shown : Type 0 where
-  pub opening : (after opens unopened stage).answer ≡ Opened (addr 0x1008) 64
+  pub opening : (after opens unopened stage).answer ≡ Ok (Opened (addr 0x1008) 64)
   pub rest : (after opens unopened stage).heap.pending ≡ 3
   pub tops : (after opens unopened stage).heap.top.0 ≡ 0x1048
   pub long : length stage ≡ 96
   pub good : sound half (holes half stage) ≡ true
   pub two : holes half stage ≡ halves
-  pub low : (after (allocate 24 8) half stage).answer ≡ Allocated (addr 0x1008) 1
-  pub high : (after (allocate 24 16) half stage).answer ≡ Allocated (addr 0x1030) 2
-  pub frees : emptied.answer ≡ Freed 16 0
+  pub low : (after (allocate 24 8) half stage).answer ≡ Ok (Allocated (addr 0x1008) 1)
+  pub high : (after (allocate 24 16) half stage).answer ≡ Ok (Allocated (addr 0x1030) 2)
+  pub frees : emptied.answer ≡ Ok (Freed 16 0)
   pub empty : emptied.heap.used ≡ 0
   good_more : sound more (holes more stage) ≡ true
   good_then : sound emptied.heap (holes emptied.heap emptied.arena) ≡ true
   pub joined : holes emptied.heap emptied.arena ≡ hole (addr 0x1008) 64 ∷ []
-  pub again : (after (allocate 16 16) emptied.heap emptied.arena).answer ≡ Allocated (addr 0x1020) 1
-  pub resizes : (after growing half stage).answer ≡ Resized 40 40
+  pub again : (after (allocate 16 16) emptied.heap emptied.arena).answer ≡ Ok (Allocated (addr 0x1020) 1)
+  pub resizes : (after growing half stage).answer ≡ Ok (Resized 40 40)
   pub larger : (after growing half stage).heap.used ≡ 40
   -- the first byte of the held block
   pub held : get_or stage 31 0 ≡ 0xa0
-  pub grows : (after (extend 14) half stage).answer ≡ Extended 80 1
-  pub grows_more : (after (extend 14) more stage).answer ≡ Extended 80 2
-  pub lists : (after list half stage).answer ≡ Listed 2 48
-  pub reports : (after (room 8) half stage).answer ≡ Room 24 2
-  pub crooked : (after (room 32) half stage).answer ≡ Room 0 2
+  pub grows : (after (extend 14) half stage).answer ≡ Ok (Extended 80 1)
+  pub grows_more : (after (extend 14) more stage).answer ≡ Ok (Extended 80 2)
+  pub lists : (after list half stage).answer ≡ Ok (Listed 2 48)
+  pub reports : (after (room 8) half stage).answer ≡ Ok (Room 24 2)
+  pub crooked : (after (room 32) half stage).answer ≡ Ok (Room 0 2)
 
 pub shown : Shown
 unfolding ones_in word store head_at put_head holes_from first_of put_heads total sound_numbers gap lie rise leave_before leave_after sound_holes sound holes rounded candidate suits later find grant_of largest_grant remains split in_front freed overlaps eight_to_hole stretch_end rest_in_front resized opened taken given refitted grown gathered extended accepted tests unless decided outcome leaves after
@@ -136,7 +138,7 @@ module _ (b : Behaviour) (sb : Statements b) where
   pub does : (c : Call) (h : Heap) → Fits c → after c h stage ≡ b.after c h stage
   does c h f = same.after c h stage f stage_bytes
 
-  pub says : (c : Call) (h : Heap) {a : Answer} → Fits c → (after c h stage).answer ≡ a → (b.after c h stage).answer ≡ a
+  pub says : (c : Call) (h : Heap) {a : Result Answer Refusal} → Fits c → (after c h stage).answer ≡ a → (b.after c h stage).answer ≡ a
   says c h f e = ap (λ (x : After). x.answer) (sym (does c h f)) ∙ e
 
   reads : (h : Heap) (m : List ℕ) → sound h (holes h m) ≡ true → Sound h (b.holes h m) × (b.holes h m ≡ holes h m)
@@ -158,7 +160,7 @@ module _ (b : Behaviour) (sb : Statements b) where
   pub asked_free : Asked b freeing half stage
   asked_free = asked freeing (omega arith)
 
-  pub says_freed : (b.after freeing half stage).answer ≡ Freed 16 0
+  pub says_freed : (b.after freeing half stage).answer ≡ Ok (Freed 16 0)
   says_freed = says freeing half (omega arith) shown.frees
 
   pub empties : b.after freeing half stage ≡ emptied
@@ -167,7 +169,7 @@ module _ (b : Behaviour) (sb : Statements b) where
   pub one : b.holes emptied.heap emptied.arena ≡ hole (addr 0x1008) 64 ∷ []
   one = (reads emptied.heap emptied.arena shown.good_then).1 ∙ shown.joined
 
-  pub grants_again : (b.after (allocate 16 16) emptied.heap emptied.arena).answer ≡ Allocated (addr 0x1020) 1
+  pub grants_again : (b.after (allocate 16 16) emptied.heap emptied.arena).answer ≡ Ok (Allocated (addr 0x1020) 1)
   grants_again =
       let bytes = statements.bytes_stay freeing half stage stage_bytes in
       ap (λ (x : After). x.answer) (sym (same.after (allocate 16 16) emptied.heap emptied.arena (omega arith) bytes)) ∙ shown.again
@@ -176,9 +178,9 @@ module _ (b : Behaviour) (sb : Statements b) where
   pub asked_growing : Asked b growing half stage
   asked_growing = asked growing (omega arith)
 
-  pub says_resized : (b.after growing half stage).answer ≡ Resized 40 40
+  pub says_resized : (b.after growing half stage).answer ≡ Ok (Resized 40 40)
   says_resized = says growing half (omega arith) shown.resizes
 
   -- an opening
-  pub says_open : (b.after opens unopened stage).answer ≡ Opened (addr 0x1008) 64
+  pub says_open : (b.after opens unopened stage).answer ≡ Ok (Opened (addr 0x1008) 64)
   says_open = says opens unopened (omega arith) shown.opening

@@ -68,10 +68,10 @@ module _ (r₁ r₂ : Rows) where
       )
 
   call_leaves : (c : Call) (n : ℕ) (b : Box) → Leaves c (comes_to c n b)
-  call_leaves (opening base named) n b = other_leaves (opening base named) n b (λ e. let z : ◌≡◌ {A = ℕ} 0 1 = cc in omega arith)
-  call_leaves (change c) n b = other_leaves (change c) n b (λ e. let z : ◌≡◌ {A = ℕ} 0 1 = cc in omega arith)
+  call_leaves (opening base named) n b = other_leaves (opening base named) n b (λ e. cc)
+  call_leaves (change c) n b = other_leaves (change c) n b (λ e. cc)
   call_leaves (report Report.list) n b = list_leaves n b
-  call_leaves (report (Report.room align)) n b = other_leaves (room align) n b (λ e. let z : ◌≡◌ {A = ℕ} 0 1 = cc in omega arith)
+  call_leaves (report (Report.room align)) n b = other_leaves (room align) n b (λ e. cc)
 
 -- ---- all of them
 

@@ -1,13 +1,13 @@
 -- The frauds and slips that the demands must shut out, each in one line and as a statement: it can be committed, and no behaviour that
 -- commits it meets the statements of the calls. The proof is proofs/Frauds.antt.
-use Rattle.std.specs.Prelude.{◌≡◌, ◌⊎◌, ℕ, ◌+◌, ◌-◌, ◌^◌, ◌≤◌, ◌<◌, length, get_or}
+use Rattle.std.specs.Prelude.{◌≡◌, Ok, Err, ◌⊎◌, ℕ, ◌+◌, ◌-◌, ◌^◌, ◌≤◌, ◌<◌, length, get_or}
 use mathlib.Core.List.{List, ◌∷◌, ◌++◌, Memᴰ}
 use Rattle.rules.specs.declared.Addr.{Addr}
 use Rattle.rules.specs.declared.Hole.{Hole}
 use Rattle.rules.specs.declared.Heap.{Heap}
 use Rattle.rules.specs.declared.Refusal.{Refusal}
 use Rattle.rules.specs.declared.Refusal.TheVariants.{OtherLength, NotSound}
-use Rattle.rules.specs.declared.Answer.TheVariants.{Opened, Allocated, Freed, Resized, Extended, Listed, Room, Refused}
+use Rattle.rules.specs.declared.Answer.TheVariants.{Opened, Allocated, Freed, Resized, Extended, Listed, Room}
 use Rattle.rules.specs.Kinds.{addr}
 use Rattle.rules.specs.Changes.{Change}
 use Rattle.rules.specs.Calls.{Call, opening, change, report, allocate, free, resize, extend, list, room}
@@ -32,7 +32,7 @@ abbrev pub Asked : Behaviour → Call → Heap → List ℕ → Type 0
 Asked b c h m = Made c m × Good b h m
 
 abbrev pub Refuses : Behaviour → Call → Heap → List ℕ → Type 0
-Refuses b c h m = (r : Refusal) × ((b.after c h m).answer ≡ Refused r)
+Refuses b c h m = (r : Refusal) × ((b.after c h m).answer ≡ Err r)
 
 -- a size that the call rounds is so near to 2^64 that it and 7, added in 64 bits, wrap around to less than 7
 abbrev pub Wraps : Call → Type 0
@@ -52,7 +52,7 @@ pub record Grant (b : Behaviour) : Type 0 where
   pub at : ℕ
   pub count : ℕ
   pub fits : Fits (allocate size align)
-  pub answer : (b.after (allocate size align) heap arena).answer ≡ Allocated (addr at) count
+  pub answer : (b.after (allocate size align) heap arena).answer ≡ Ok (Allocated (addr at) count)
 
 -- the hole in which it lies
 pub record UsedHole (b : Behaviour) (g : Grant b) : Type 0 where
@@ -77,7 +77,7 @@ pub record Resizing (b : Behaviour) : Type 0 where
   pub said : ℕ
   pub used : ℕ
   pub fits : Fits (resize at size align new_size)
-  pub answer : (b.after (resize at size align new_size) heap arena).answer ≡ Resized said used
+  pub answer : (b.after (resize at size align new_size) heap arena).answer ≡ Ok (Resized said used)
 
 -- what it leaves
 abbrev pub left : (b : Behaviour) → Resizing b → After
@@ -112,12 +112,12 @@ pub record Frauds : Type 0 where
       Caught
       (λ b.
       (c : Call) (h : Heap) (m : List ℕ) → Asked b c h m → ((base : Addr) (named : ℕ) → c ≡ opening base named → ⊥)
-      → (b.after c h m).answer ≡ Refused NotSound)
+      → (b.after c h m).answer ≡ Err NotSound)
   -- once, an unopened heap is refused with 4: refusals 3 and 4 change places
   pub tests_swapped :
       Caught
       (λ b.
-      (c : Call) × (h : Heap) × (m : List ℕ) × Fits c × (h.bottom.0 ≡ 0) × ((b.after c h m).answer ≡ Refused OtherLength))
+      (c : Call) × (h : Heap) × (m : List ℕ) × Fits c × (h.bottom.0 ≡ 0) × ((b.after c h m).answer ≡ Err OtherLength))
   -- once, a call is accepted on an opened heap whose sizes do not add up
   pub sum_not_tested :
       Caught
@@ -143,14 +143,14 @@ pub record Frauds : Type 0 where
       Caught
       (λ b.
       (base bottom : Addr) (named s : ℕ) (h : Heap) (m : List ℕ) → Made (opening base named) m → h.bottom.0 ≡ 0
-      → (b.after (opening base named) h m).answer ≡ Opened bottom s
+      → (b.after (opening base named) h m).answer ≡ Ok (Opened bottom s)
       → (b.after (opening base named) h m).heap.pending ≡ 0)
   -- every opening adds pending bytes to size: all that is named lies below top
   pub pending_in_size :
       Caught
       (λ b.
       (base bottom : Addr) (named s : ℕ) (h : Heap) (m : List ℕ) → Made (opening base named) m → h.bottom.0 ≡ 0
-      → (b.after (opening base named) h m).answer ≡ Opened bottom s
+      → (b.after (opening base named) h m).answer ≡ Ok (Opened bottom s)
       → (b.after (opening base named) h m).heap.top.0 ≡ base.0 + named)
   -- an unopened heap has a first place that is not 0
   pub unopened_not_zero : Caught (λ b. b.unopened.first.0 ≡ 0 → ⊥)
@@ -160,7 +160,7 @@ pub record Frauds : Type 0 where
       (λ b.
       (a : Heap → Addr)
       × ((s align n : ℕ) (x : Addr) (h : Heap) (m : List ℕ) → Asked b (allocate s align) h m
-      → (b.after (allocate s align) h m).answer ≡ Allocated x n
+      → (b.after (allocate s align) h m).answer ≡ Ok (Allocated x n)
       → x ≡ a h))
   -- once, the count is not the used hole's place in the list
   pub invented_count : Caught (λ b. (g : Grant b) × (u : UsedHole b g) × (g.count ≡ length u.front + 1 → ⊥))
@@ -184,29 +184,29 @@ pub record Frauds : Type 0 where
       Caught
       (λ b.
       (x : Addr) (s align r u t q n : ℕ) (h : Heap) (m : List ℕ) → Asked b (free x s align) h m → Fits (allocate t q)
-      → (b.after (free x s align) h m).answer ≡ Freed r u
-      → (b.after (allocate t q) (b.after (free x s align) h m).heap (b.after (free x s align) h m).arena).answer ≡ Allocated x n
+      → (b.after (free x s align) h m).answer ≡ Ok (Freed r u)
+      → (b.after (allocate t q) (b.after (free x s align) h m).heap (b.after (free x s align) h m).arena).answer ≡ Ok (Allocated x n)
       → ⊥)
   -- every free leaves the holes as they were
   pub free_does_nothing :
       Caught
       (λ b.
       (x : Addr) (s align r u : ℕ) (h : Heap) (m : List ℕ) → Asked b (free x s align) h m
-      → (b.after (free x s align) h m).answer ≡ Freed r u
+      → (b.after (free x s align) h m).answer ≡ Ok (Freed r u)
       → b.holes (b.after (free x s align) h m).heap (b.after (free x s align) h m).arena ≡ b.holes h m)
   -- every free leaves used as it was
   pub free_keeps_used :
       Caught
       (λ b.
       (x : Addr) (s align r u : ℕ) (h : Heap) (m : List ℕ) → Asked b (free x s align) h m
-      → (b.after (free x s align) h m).answer ≡ Freed r u
+      → (b.after (free x s align) h m).answer ≡ Ok (Freed r u)
       → (b.after (free x s align) h m).heap.used ≡ h.used)
   -- a freed span joins only the hole before it: one that starts where the span ends stays a hole
   pub joins_before_only :
       Caught
       (λ b.
       (x : Addr) (s align r u : ℕ) (h : Heap) (m : List ℕ) (k : Hole) → Asked b (free x s align) h m
-      → (b.after (free x s align) h m).answer ≡ Freed r u
+      → (b.after (free x s align) h m).answer ≡ Ok (Freed r u)
       → Memᴰ k (b.holes h m)
       → k.addr.0 ≡ x.0 + r
       → Memᴰ k (b.holes (b.after (free x s align) h m).heap (b.after (free x s align) h m).arena))
@@ -226,7 +226,7 @@ pub record Frauds : Type 0 where
       Caught
       (λ b.
       (x : Addr) (s align n q u : ℕ) (h : Heap) (m : List ℕ) → Asked b (resize x s align n) h m
-      → (b.after (resize x s align n) h m).answer ≡ Resized q u
+      → (b.after (resize x s align n) h m).answer ≡ Ok (Resized q u)
       → (b.after (resize x s align n) h m).heap.used ≡ h.used)
   -- once, the hole into which the block has grown stays in the list
   pub resize_keeps_eaten :
@@ -256,30 +256,30 @@ pub record Frauds : Type 0 where
       (λ b.
       (left : ℕ → ℕ)
       × ((by s p : ℕ) (h : Heap) (m : List ℕ) → Asked b (extend by) h m → 16 ≤ h.pending + by
-      → (b.after (extend by) h m).answer ≡ Extended s p
+      → (b.after (extend by) h m).answer ≡ Ok (Extended s p)
       → p ≡ left by))
   -- each list answers a 0
   pub list_zeros :
       Caught
-      (λ b. (x y : ℕ) (h : Heap) (m : List ℕ) → Asked b list h m → (b.after list h m).answer ≡ Listed x y → (x ≡ 0) ⊎ (y ≡ 0))
+      (λ b. (x y : ℕ) (h : Heap) (m : List ℕ) → Asked b list h m → (b.after list h m).answer ≡ Ok (Listed x y) → (x ≡ 0) ⊎ (y ≡ 0))
   -- each room report answers a 0
   pub room_zeros :
       Caught
       (λ b.
-      (align x y : ℕ) (h : Heap) (m : List ℕ) → Asked b (room align) h m → (b.after (room align) h m).answer ≡ Room x y
+      (align x y : ℕ) (h : Heap) (m : List ℕ) → Asked b (room align) h m → (b.after (room align) h m).answer ≡ Ok (Room x y)
       → (x ≡ 0) ⊎ (y ≡ 0))
   -- each forgets the alignment: it names no less than the largest hole
   pub room_forgets_alignment :
       Caught
       (λ b.
-      (align x y : ℕ) (h : Heap) (m : List ℕ) (k : Hole) → Asked b (room align) h m → (b.after (room align) h m).answer ≡ Room x y
+      (align x y : ℕ) (h : Heap) (m : List ℕ) (k : Hole) → Asked b (room align) h m → (b.after (room align) h m).answer ≡ Ok (Room x y)
       → Memᴰ k (b.holes h m)
       → k.size ≤ x)
   -- each says 16, whenever anything fits
   pub room_says_sixteen :
       Caught
       (λ b.
-      (align x y : ℕ) (h : Heap) (m : List ℕ) → Asked b (room align) h m → (b.after (room align) h m).answer ≡ Room x y
+      (align x y : ℕ) (h : Heap) (m : List ℕ) → Asked b (room align) h m → (b.after (room align) h m).answer ≡ Ok (Room x y)
       → (x ≡ 0) ⊎ (x ≡ 16))
   -- once, a call changes a byte that lies in no head of the holes it leaves
   pub scribble :

@@ -1,12 +1,13 @@
 -- That the premises of the demands can be met: the runs, heaps and requests that they speak of exist, so none of them holds emptily. The
 -- proof is proofs/Premises.antt.
-use Rattle.std.specs.Prelude.{◌≡◌, false, cond, ℕ, suc, ◌+◌, ◌-◌, ◌≤◌, ◌<◌, eqb, length, get_or}
+use Rattle.std.specs.Prelude.{◌≡◌, Result, Ok, Err, false, cond, ℕ, suc, ◌+◌, ◌-◌, ◌≤◌, ◌<◌, eqb, length, get_or}
 use mathlib.Core.List.{List, [], ◌∷◌, ◌++◌, Memᴰ}
 use Rattle.rules.specs.declared.Addr.{Addr}
 use Rattle.rules.specs.declared.Heap.{Heap}
+use Rattle.rules.specs.declared.Refusal.{Refusal}
 use Rattle.rules.specs.declared.Refusal.TheVariants.{BadOpening, AlreadyOpened, Unopened, OtherLength, BadLayout, NoRoom, BadSpan, PastArena, BadStretch}
 use Rattle.rules.specs.declared.Answer.{Answer}
-use Rattle.rules.specs.declared.Answer.TheVariants.{Opened, Allocated, Freed, Resized, Extended, Listed, Room, Refused}
+use Rattle.rules.specs.declared.Answer.TheVariants.{Opened, Allocated, Freed, Resized, Extended, Listed, Room}
 use Rattle.rules.specs.Tests.{any}
 use Rattle.rules.specs.Round.{Below}
 use Rattle.rules.specs.Kinds.{addr}
@@ -27,7 +28,7 @@ abbrev pub lent : ℕ → Call → Ask
 lent n c = calls c (rows [] []) n
 
 -- what it is told
-abbrev pub reply : Answer → Told
+abbrev pub reply : Result Answer Refusal → Told
 reply a = answers a (rows [] [])
 
 -- with these rows for its list
@@ -68,28 +69,28 @@ story r =
 -- with those rows then
 abbrev pub replies : Rows → List Told
 replies r =
-    reply (Refused Unopened)
-    ∷ reply (Refused BadOpening)
-    ∷ reply (Opened (addr 0x1008) 64)
-    ∷ reply (Refused AlreadyOpened)
-    ∷ reply (Allocated (addr 0x1008) 1)
-    ∷ reply (Allocated (addr 0x1018) 1)
-    ∷ reply (Freed 16 24)
-    ∷ reply (Freed 24 0)
-    ∷ reply (Allocated (addr 0x1020) 1)
-    ∷ reply (Resized 40 40)
-    ∷ reply (Resized 16 16)
-    ∷ reply (Refused BadStretch)
-    ∷ reply (Refused (NoRoom 2))
-    ∷ reply (Refused BadLayout)
-    ∷ reply (Refused BadSpan)
-    ∷ reply (Extended 64 7)
-    ∷ reply (Extended 80 1)
-    ∷ reply (Refused PastArena)
-    ∷ reply (Refused OtherLength)
-    ∷ reply (Refused OtherLength)
-    ∷ answers (Listed 2 64) r
-    ∷ reply (Room 24 2)
+    reply (Err Unopened)
+    ∷ reply (Err BadOpening)
+    ∷ reply (Ok (Opened (addr 0x1008) 64))
+    ∷ reply (Err AlreadyOpened)
+    ∷ reply (Ok (Allocated (addr 0x1008) 1))
+    ∷ reply (Ok (Allocated (addr 0x1018) 1))
+    ∷ reply (Ok (Freed 16 24))
+    ∷ reply (Ok (Freed 24 0))
+    ∷ reply (Ok (Allocated (addr 0x1020) 1))
+    ∷ reply (Ok (Resized 40 40))
+    ∷ reply (Ok (Resized 16 16))
+    ∷ reply (Err BadStretch)
+    ∷ reply (Err (NoRoom 2))
+    ∷ reply (Err BadLayout)
+    ∷ reply (Err BadSpan)
+    ∷ reply (Ok (Extended 64 7))
+    ∷ reply (Ok (Extended 80 1))
+    ∷ reply (Err PastArena)
+    ∷ reply (Err OtherLength)
+    ∷ reply (Err OtherLength)
+    ∷ answers (Ok (Listed 2 64)) r
+    ∷ reply (Ok (Room 24 2))
     ∷ says 0x1059
     ∷ []
 

@@ -3,20 +3,21 @@
 // or 5). Neither looks at a byte, so no memory is lent here; tests/dock.c makes the calls on 16 MiB.
 #![tactic(auto)]
 
-use answers::answer_numbers;
-use numbers::Checked;
-use rules::{ARENA_LIMIT, Addr, Answer, Heap, Place};
+use answers::Told;
+use rules::{ARENA_LIMIT, Addr, Heap, NONE};
 use std::io;
 
-fn tell(rt: &impl Print, len: u64, answer: Answer) -> io::Result<()> {
-    let told = answer_numbers(answer);
-    println!(rt; "{len:016x} {:02x} {:016x} {:016x}", told.0, told.1, told.2)
+// The three lengths: at the limit, one byte below it and one above.
+const LENGTHS: [u64; 3] = [ARENA_LIMIT - 1, ARENA_LIMIT, ARENA_LIMIT + 1];
+
+fn tell(rt: &impl Print, len: u64, told: Told) -> io::Result<()> {
+    let Told { no, one, two } = told;
+    println!(rt; "{len:016x} {no:02x} {one:016x} {two:016x}")
 }
 
 fn opens(rt: &impl Print, len: u64) -> io::Result<()> {
-    let d = open::decide(open::empty(), len, Addr(0x1000), len);
-    let answer = d.answer;
-    tell(rt, len, answer)
+    let decided = open::decide(open::empty(), len, Addr(0x1000), len);
+    tell(rt, len, Told::from(decided.map(|d| d.answer)))
 }
 
 // A heap of one block, sound but for its length where that breaks a rule.
@@ -26,22 +27,22 @@ fn claims(rt: &impl Print, len: u64) -> io::Result<()> {
         len,
         bottom: Addr(0x1000),
         top: Addr(0x1010),
-        first: Place(rules::NONE),
+        first: NONE,
         pending: 0,
         used: 16,
     };
-    let checked = numbers::check(h, len);
-    match checked {
-        Checked::Fair => println!(rt; "{len:016x} 00"),
-        Checked::No(r) => tell(rt, len, Answer::Refused(r)),
+    match numbers::check(h, len) {
+        Ok(()) => println!(rt; "{len:016x} 00"),
+        Err(r) => tell(rt, len, Told::from(r)),
     }
 }
 
 fn main(rt: HostRuntime) -> io::Result<()> {
-    opens(&rt, ARENA_LIMIT - 1)?;
-    opens(&rt, ARENA_LIMIT)?;
-    opens(&rt, ARENA_LIMIT + 1)?;
-    claims(&rt, ARENA_LIMIT - 1)?;
-    claims(&rt, ARENA_LIMIT)?;
-    claims(&rt, ARENA_LIMIT + 1)
+    for len in LENGTHS {
+        opens(&rt, len)?;
+    }
+    for len in LENGTHS {
+        claims(&rt, len)?;
+    }
+    Ok(())
 }

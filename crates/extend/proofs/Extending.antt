@@ -5,6 +5,7 @@ use mathlib.Core.List.{List, [], ◌∷◌, append-nil}
 use Prim.Native.Nat.{ℕ, ◌+◌, ◌-◌, ◌%◌, ◌≤◌, ◌<◌}
 use native.Mathlib.Omega.{arith}
 use lib.Dec.{eqb}
+use Rattle.std.proofs.Common.{Result, Ok, Err, None}
 use borrow.Author.Tests.{le-ltb, lt-ltb}
 use Rattle.rules.specs.Fixed.{min_size, grain}
 use Rattle.rules.specs.Round.{down_to}
@@ -17,16 +18,18 @@ use Rattle.rules.specs.Calls.{grown, gathered, extended}
 use Rattle.rules.specs.declared.Hole.{Hole}
 use Rattle.rules.specs.declared.Heap.{Heap}
 use Rattle.rules.specs.declared.Decided.{Decided}
+use Rattle.rules.specs.declared.Refusal.{Refusal}
 use Rattle.rules.specs.declared.Refusal.TheVariants.{PastArena}
 use Rattle.rules.specs.declared.Answer.TheVariants.{Extended}
-use Rattle.rules.specs.Inner.{put, nothing, written, refusing, Relinks, Fulfils, Fair, extending}
+use Rattle.rules.specs.Inner.{put, written, Relinks, Fulfils, Fair, extending}
 use Rattle.rules.proofs.Walk.{rules_keep, walks}
 use Rattle.rules.proofs.Rises.{rises_back, sound_rises}
 use Rattle.rules.proofs.Lists.{heads_to}
 use Rattle.rules.proofs.Relink.{put_same}
 use Rattle.rules.proofs.Written.{fulfils_refused, fulfils_changed, fulfils_sound}
 use Rattle.walk.specs.Walk.{start_of, last_place}
-use Rattle.walk.specs.Settled.{Ready, Settled}
+use Rattle.numbers.specs.Ready.{Ready}
+use Rattle.walk.specs.Settled.{Settled}
 use Rattle.walk.specs.declared.Near.{Near}
 use Rattle.walk.proofs.ToEnd.{by_walk}
 use Rattle.walk.proofs.Stands.{stands}
@@ -94,7 +97,8 @@ module _ {h : Heap} {m : List ℕ} {near : Near} (k : Sought h m h.top near) whe
 -- the span at top is freed, and top rises by it
 pub grown_is : (h : Heap) (m : List ℕ) (by : ℕ) → Fair h → {r : Relinked}
     → Linked h.base m (freed (hole h.top (down_to grain by)) (holes h m)) r
-    → Fulfils (growing by h m) m
+    → Fulfils (growing by h m) h m
+    (Ok
     (record {
       heap =
           record {
@@ -108,7 +112,7 @@ pub grown_is : (h : Heap) (m : List ℕ) (by : ℕ) → Fair h → {r : Relinked
           };
       answer = Extended (h.top.0 + down_to grain by - h.bottom.0) (by % grain);
       heads = r.heads;
-    })
+    }))
 unfolding grown
 grown_is h m by fair l =
     let s = down_to grain by in
@@ -118,26 +122,26 @@ grown_is h m by fair l =
     (plus h.top s) (by % grain) h.used l)
 
 -- a list that stands is written by no head
-stay : (h : Heap) (m : List ℕ) → Settled h m → Relinks h.base m (holes h m) h.first (record { one = nothing; two = nothing })
+stay : (h : Heap) (m : List ℕ) → Settled h m → Relinks h.base m (holes h m) h.first (record { one = None; two = None })
 unfolding put written
 stay h m s =
     let t = stands h m s in
     let same = heads_to h.base (holes h m) m ∙ put_same h.base (holes h m) none m s.ready.bytes t.heads in
-    record { first = t.first; heads = record { one = λ n. absurd (n refl); two = λ n. absurd (n refl); arena = sym same } }
+    record { first = t.first; heads = record { one = tt; two = tt; arena = sym same } }
 
 -- the bytes lie in the arena, behind top and the pending ones
 abbrev pub Fits : Heap → ℕ → Type 0
 Fits h by = h.top.0 + h.pending + by ≤ h.base.0 + h.len
 
 module _ (h : Heap) (m : List ℕ) (by : ℕ) (ready : Ready h m) (sound : sound_holes h (holes h m) ≡ true) where
-  pub past_is : h.base.0 + h.len < h.top.0 + h.pending + by → Fulfils (extended_if_sound by h m) m (refusing h PastArena)
+  pub past_is : h.base.0 + h.len < h.top.0 + h.pending + by → Fulfils (extended_if_sound by h m) h m (Err PastArena)
   unfolding extending
   past_is l =
       fulfils_sound h m (holes h m) (extending by h (holes h m)) sound
       (rw (lt-ltb (h.base.0 + h.len) (h.top.0 + h.pending + by) l) (fulfils_refused h m PastArena))
 
   module _ (fits : Fits h by) where
-    pub gathers_is : h.pending + by < min_size → Fulfils (extended_if_sound by h m) m (gathering h (h.pending + by))
+    pub gathers_is : h.pending + by < min_size → Fulfils (extended_if_sound by h m) h m (Ok (gathering h (h.pending + by)))
     unfolding extending extended gathered
     gathers_is l =
         let sum = h.pending + by in
@@ -146,8 +150,8 @@ module _ (h : Heap) (m : List ℕ) (by : ℕ) (ready : Ready h m) (sound : sound
         (fulfils_changed h m (Extended (size h) sum) (holes h m) h.top sum h.used
         (stay h m (record { ready = ready; sound = sound }))))
 
-    pub grows_is : {d : Decided} → min_size ≤ h.pending + by → Fulfils (growing (h.pending + by) h m) m d
-        → Fulfils (extended_if_sound by h m) m d
+    pub grows_is : {d : Result Decided Refusal} → min_size ≤ h.pending + by → Fulfils (growing (h.pending + by) h m) h m d
+        → Fulfils (extended_if_sound by h m) h m d
     unfolding extending extended
     grows_is l p =
         fulfils_sound h m (holes h m) (extending by h (holes h m)) sound

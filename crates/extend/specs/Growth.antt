@@ -1,5 +1,5 @@
 -- What an extension decides: bytes that accumulate, bytes that become free, and either of them on sound holes. Definitions only.
-use Rattle.std.specs.Prelude.{List, ℕ, ◌%◌}
+use Rattle.std.specs.Prelude.{None, List, ℕ, ◌%◌}
 use Rattle.rules.specs.Fixed.{grain}
 use Rattle.rules.specs.Round.{down_to}
 use Rattle.rules.specs.Sound.{size, holes}
@@ -8,7 +8,7 @@ use Rattle.rules.specs.Outcome.{After, leaves}
 use Rattle.rules.specs.declared.Heap.{Heap}
 use Rattle.rules.specs.declared.Decided.{Decided}
 use Rattle.rules.specs.declared.Answer.TheVariants.{Extended}
-use Rattle.rules.specs.Inner.{nothing, sifted, extending}
+use Rattle.rules.specs.Inner.{sifted, extending}
 
 -- the bytes are pending, and nothing is written
 abbrev pub gathering : Heap → ℕ → Decided
@@ -25,7 +25,7 @@ gathering h pending =
             used = h.used;
           };
       answer = Extended (size h) pending;
-      heads = record { one = nothing; two = nothing };
+      heads = record { one = None; two = None };
     }
 
 -- the bytes, rounded down to 8, are added at top, and the rest is pending

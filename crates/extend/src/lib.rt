@@ -1,5 +1,5 @@
 // The call extend, on a heap by value and a lent arena: its tests, its decision, and the decision
-// written.
+// carried out.
 #![tactic(auto)]
 
 mod growth;
@@ -9,19 +9,16 @@ ghost use Rattle.rules.specs.Outcome.{Is, after};
 ghost use Rattle.rules.specs.Inner.{Fulfils};
 
 use growth::extend_top;
-use hole::{arena_len, refuse, write};
-use numbers::{Checked, check};
-use rules::{Decided, Done, Heap};
+use hole::carry_out;
+use numbers::lend;
+use rules::{Decided, Done, Heap, Refusal};
 
 // What an extension comes to: the tests 3, 4, 5, 9, and the bytes that accumulate or become free.
-pub fn decide(h: Heap, arena: &[u8], by: u64) -> Decided
-    ensures { Fulfils (after (Calls.extend by) h arena.now) arena.now result }
+pub fn decide(h: Heap, arena: &[u8], by: u64) -> Result<Decided, Refusal>
+    ensures { Fulfils (after (Calls.extend by) h arena.now) h arena.now result }
 {
-    let checked = check(h, arena_len(arena));
-    if let Checked::No(r) = checked {
-        return refuse(h, r);
-    }
-    extend_top(h, arena, by)
+    let loan = lend(h, arena)?;
+    extend_top(loan, by)
 }
 
 // Gives the heap `by` bytes more of its arena. It tests 3, 4, 5, 9.
@@ -29,5 +26,5 @@ pub fn extend(h: Heap, arena: &mut [u8], by: u64) -> Done
     ensures { Is (after (Calls.extend by) h arena.old) result arena.new }
 {
     let d = decide(h, arena, by);
-    write(arena, d)
+    carry_out(h, arena, d)
 }

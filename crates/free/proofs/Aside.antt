@@ -5,21 +5,28 @@ use Prim.Native.Nat.{ℕ, ◌≤◌}
 use native.Mathlib.Omega.{arith}
 use Rattle.rules.specs.Fixed.{min_size}
 use Rattle.rules.specs.Holes.{end}
-use Rattle.rules.specs.Free.{overlaps, eight_to_hole}
 use Rattle.rules.specs.declared.Hole.{Hole}
 use Rattle.rules.specs.Inner.{Rises, end_or}
-use Rattle.rules.proofs.Cases.{or_left, or_right}
+use Rattle.std.proofs.lemmas.Bool.{or_parts}
 use Rattle.rules.proofs.Rises.{rises_widen}
-use Rattle.rules.proofs.Clear.{Clear, Follows, clear_rest, clear_follows, clear_followed, ClearBefore, ClearBehind, overlaps_append, eight_append}
+use Rattle.rules.proofs.Clear.{
+  Clear,
+  Follows,
+  clear_rest,
+  clear_follows,
+  clear_followed,
+  ClearBefore,
+  ClearBehind,
+  overlaps_append,
+  eight_append,
+}
 use Rattle.walk.proofs.ToSpan.{AllFrom, Beyond}
 
 pub clear_split : (g : Hole) (front back : List Hole) → Clear g (front ++ back) → Clear g front × Clear g back
 clear_split g front back c =
-    let o = sym (overlaps_append g front back) ∙ c.0 in
-    let n = sym (eight_append g front back) ∙ c.1 in (
-      (or_left (overlaps g front) (overlaps g back) o, or_left (eight_to_hole g front) (eight_to_hole g back) n),
-      (or_right (overlaps g front) (overlaps g back) o, or_right (eight_to_hole g front) (eight_to_hole g back) n),
-    )
+    let o = or_parts _ _ (sym (overlaps_append g front back) ∙ c.0) in
+    let n = or_parts _ _ (sym (eight_append g front back) ∙ c.1) in
+    ((o.0, n.0), (o.1, n.1))
 
 -- the last hole that starts at or before a span ends there too, if it neither overlaps it nor leaves 8 bytes
 before_clear : (g k : Hole) (ks : List Hole) → min_size ≤ g.size → AllFrom g.addr (k ∷ ks) → Clear g (k ∷ ks)

@@ -4,7 +4,7 @@ use mathlib.Core.Bool.{true, false, not}
 use mathlib.Core.List.{List, [], ◌∷◌, ◌++◌}
 use Prim.Native.Nat.{ℕ, ◌+◌, ◌-◌, ◌^◌, ◌≤◌, ◌<◌}
 use native.Mathlib.Omega.{arith}
-use borrow.Author.Tests.{not-true, not-false, le-ltb, ne_eqb}
+use Rattle.std.proofs.lemmas.Bool.{and_parts, and_from, not-true, not-false, le-ltb, ne_eqb}
 use Rattle.rules.specs.Fixed.{min_size, grain}
 use Rattle.rules.specs.Tests.{any}
 use Rattle.rules.specs.Kinds.{multiple_of}
@@ -14,7 +14,8 @@ use Rattle.rules.specs.Refusals.{refusal8}
 use Rattle.rules.specs.declared.Hole.{Hole}
 use Rattle.rules.specs.declared.Heap.{Heap}
 use Rattle.rules.specs.Inner.{Fair, Rises, end_or}
-use Rattle.rules.proofs.Cases.{iff, and_left, and_right, both, all_each, each_all, any_each, each_any}
+use Rattle.std.specs.Cmp.{both_ways}
+use Rattle.rules.proofs.Cases.{all_each, each_all, any_each, each_any}
 use Rattle.rules.proofs.Walk.{sound_sum}
 use Rattle.rules.proofs.Rises.{rises_le, rises_widen, rises_front, rises_back, sound_rises}
 use Rattle.rules.proofs.Clear.{Clear, Follows, passed, ClearBefore, ClearBehind, clear_none, clear_room}
@@ -22,8 +23,8 @@ use Rattle.walk.specs.Walk.{start_of}
 use Rattle.walk.specs.declared.Near.{Near}
 use Rattle.walk.proofs.ToSpan.{Lies}
 use Rattle.joining.specs.Span.{Free}
-use Rattle.free.specs.SpanTests.{Around, keeps_gap, inside_of, between_of, may_free}
-use Rattle.free.proofs.Gaps.{gap_follows, follows_gap, keeps_before, keeps_behind}
+use Rattle.free.specs.SpanTests.{Around, inside_of, between_of, may_free}
+use Rattle.free.proofs.Gaps.{gap_follows, follows_gap}
 use Rattle.free.proofs.Aside.{clear_split, clear_before, clear_behind, before_end, behind_rises}
 use Rattle.free.proofs.Told.{floor_least, next_high, clear_keeps, keeps_clear, clear_next, next_clear}
 
@@ -69,48 +70,47 @@ module _
         }
 
     -- what they show
-    record Passes : Type 0 where
+    record Passes (align : ℕ) : Type 0 where
+      grained : multiple_of grain g.addr ≡ true
+      aligned : multiple_of align g.addr ≡ true
       low : Follows g.addr.0 h.bottom.0
       inside : Follows h.top.0 (end g).0
       before : ClearBefore g lies.front
       behind : ClearBehind g lies.back
 
-    passes : (align : ℕ) → may_free h near g align ≡ true → Passes
+    passes : (align : ℕ) → may_free h near g align ≡ true → Passes align
     unfolding may_free inside_of between_of
     passes align e =
         let t = all_each
         (multiple_of grain g.addr ∷ multiple_of align g.addr ∷ inside_of h g ∷ between_of h near g ∷ []) e in
-        let i = t.1.1.0 in
-        let b = t.1.1.1.0 in
+        let i = and_parts _ _ t.1.1.0 in
+        let b = and_parts _ _ t.1.1.1.0 in
         record {
-          low = gap_follows h.bottom g.addr (and_left (keeps_gap h.bottom g.addr) (keeps_gap (end g) h.top) i);
-          inside = gap_follows (end g) h.top (and_right (keeps_gap h.bottom g.addr) (keeps_gap (end g) h.top) i);
+          grained = t.0;
+          aligned = t.1.0;
+          low = gap_follows h.bottom g.addr i.0;
+          inside = gap_follows (end g) h.top i.1;
           before =
               keeps_clear h near g h.bottom.0 h.top.0 fair.bottom high (start_of h) lies.front lies.prev lies.floor
-              front_rises
-              (and_left (keeps_before near g) (keeps_behind h near g) b);
+              front_rises b.0;
           behind =
-              next_clear h near g (end_or h.bottom.0 lies.front) h.top.0 back_low high lies.back lies.at back_rises
-              (and_right (keeps_before near g) (keeps_behind h near g) b);
+              next_clear h near g (end_or h.bottom.0 lies.front) h.top.0 back_low high lies.back lies.at back_rises b.1;
         }
 
-    clears : Passes → Clear g ks
+    clears : {align : ℕ} → Passes align → Clear g ks
     clears p =
         rw lies.list
         (clear_none h.bottom.0 h.top.0 g lies.front lies.back rises p.before p.behind)
 
     module _ (least : min_size ≤ g.size) (align : ℕ) where
       freed_none : may_free h near g align ≡ true → any (refusal8 h ks g align) ≡ false
-      unfolding may_free
       freed_none e =
-          let t = all_each
-          (multiple_of grain g.addr ∷ multiple_of align g.addr ∷ inside_of h g ∷ between_of h near g ∷ []) e in
           let p = passes align e in
           let c = clears p in
           each_any (refusal8 h ks g align) (
-            ap not t.0,
+            ap not p.grained,
             (
-              ap not t.1.0,
+              ap not p.aligned,
               (
                 le-ltb g.addr.0 h.bottom.0 p.low.0,
                 (
@@ -138,29 +138,18 @@ module _
           let c = clear_split g lies.front lies.back (rw lies.list at p.clear) in
           let d = clear_before g lies.front least lies.before c.0 in
           let b = clear_behind (end_or h.bottom.0 lies.front) h.top.0 g lies.back back_rises lies.beyond c.1 in
-          each_all
-          (multiple_of grain g.addr ∷ multiple_of align g.addr ∷ inside_of h g ∷ between_of h near g ∷ []) (
-            not-false (multiple_of grain g.addr) q.0,
-            (
-              not-false (multiple_of align g.addr) q.1.0,
-              (
-                both
-                    (follows_gap h.bottom g.addr p.low)
-                    (follows_gap (end g) h.top p.high),
-                (
-                  both
-                      (clear_keeps h near g h.bottom.0 h.top.0 fair.bottom high (start_of h) lies.front lies.prev lies.floor d)
-                      (clear_next h near g (end_or h.bottom.0 lies.front) h.top.0 back_low high lies.back lies.at back_rises b),
-                  tt,
-                ),
-              ),
-            ),
-          )
+          let within = and_from _ _ (follows_gap h.bottom g.addr p.low) (follows_gap (end g) h.top p.high) in
+          let between =
+          and_from _ _
+          (clear_keeps h near g h.bottom.0 h.top.0 fair.bottom high (start_of h) lies.front lies.prev lies.floor d)
+          (clear_next h near g (end_or h.bottom.0 lies.front) h.top.0 back_low high lies.back lies.at back_rises b) in
+          each_all (multiple_of grain g.addr ∷ multiple_of align g.addr ∷ inside_of h g ∷ between_of h near g ∷ [])
+          (not-false _ q.0, (not-false _ q.1.0, (within, (between, tt))))
 
       -- the tests decide refusal 8
       pub may_free_lem : may_free h near g align ≡ not (any (refusal8 h ks g align))
       may_free_lem =
-          iff
+          both_ways _ _
           (λ e. ap not (freed_none e))
           (λ e. none_freed (not-true (any (refusal8 h ks g align)) e))
 

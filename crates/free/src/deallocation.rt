@@ -1,46 +1,32 @@
 // A span of rounded size that becomes free.
-ghost use Rattle.std.specs.Prelude.{◌≡◌, ◌%◌};
-ghost use Rattle.rules.specs.Fixed.{grain};
 ghost use Rattle.rules.specs.Inner.{Fulfils};
-ghost use Rattle.walk.specs.Settled.{Asked};
-ghost use Rattle.walk.specs.Settled.{Ready};
 ghost use Rattle.free.specs.SpanTests.{freed_if_sound};
 
-use crate::span::may_free;
-use hole::refuse;
+use crate::find::find_span;
 use joining::insert;
+use layout::Layout;
+use numbers::Loan;
 use rules::{Addr, Answer, Decided, Heap, Hole, Refusal};
-use walk::{Spot, adds_up, neighbours, walk};
+use walk::Sound;
 
-// Frees a span of rounded size, or refuses with 5 or 8.
-pub fn deallocate(h: Heap, arena: &[u8], addr: Addr, size: u64, align: u64) -> Decided
-    requires { Ready h arena.now × Asked size align × (size % grain ≡ 0) }
-    ensures { Fulfils (freed_if_sound size addr align h arena.now) arena.now result }
+// Frees the span at an address, or refuses with 5 or 8.
+pub fn deallocate(loan: Loan<'_>, addr: Addr, layout: Layout) -> Result<Decided, Refusal>
+    ensures { Fulfils (freed_if_sound layout.size addr layout.align loan.entry.heap loan.entry.arena.now) loan.entry.heap loan.entry.arena.now result }
 {
-    let spot = neighbours(h, arena, addr);
-    let Spot::Between(near) = spot else {
-        return refuse(h, Refusal::NotSound);
-    };
-    let cursor = near.cursor;
-    let hole = cursor.hole;
-    let floor = near.floor;
-    if !adds_up(h, walk(h, arena, hole, floor, near.total)) {
-        return refuse(h, Refusal::NotSound);
-    }
-    let span = Hole { addr, size };
-    if !may_free(h, near, span, align) {
-        return refuse(h, Refusal::BadSpan);
-    }
-    let list = insert(h, arena, cursor, span);
+    let cursor = find_span(loan, addr, layout)?;
+    let sound = Sound { loan };
+    let h = loan.heap;
+    let size = layout.size;
+    let list = insert(sound, cursor, Hole { addr, size });
     let first = list.first;
     let heads = list.heads;
     let used = h.used - size;
-    Decided {
+    Ok(Decided {
         heap: Heap { first, used, ..h },
         answer: Answer::Freed {
             rounded: size,
             used,
         },
         heads,
-    }
+    })
 }

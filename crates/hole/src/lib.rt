@@ -8,4 +8,4 @@ mod writes;
 
 pub use places::{addr_of, place_of};
 pub use reads::{arena_len, read_head};
-pub use writes::{nothing, refuse, write};
+pub use writes::{carry_out, write};

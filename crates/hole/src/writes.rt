@@ -5,54 +5,22 @@ ghost use Rattle.rules.specs.Kinds.{place};
 ghost use Rattle.rules.specs.Words.{store};
 ghost use Rattle.rules.specs.Holes.{put_head};
 ghost use Rattle.rules.specs.Inner as Inner;
-ghost use Rattle.rules.specs.Inner.{Inside, written, refusing};
+ghost use Rattle.rules.specs.Inner.{Lands, Writable, carried, written};
+ghost use Rattle.rules.specs.Outcome.{Is};
 
-use rules::{Answer, Decided, Done, Head, Heap, NONE, Place, Refusal, Write, Writes};
-
-// No head.
-pub fn nothing() -> Write
-    ensures { result ≡ Inner.nothing }
-{
-    Write {
-        at: Place(NONE),
-        head: Head {
-            size: 0,
-            next: Place(NONE),
-        },
-    }
-}
-
-// What a refused call decides: the heap comes back as it went in, and nothing is written.
-pub fn refuse(h: Heap, r: Refusal) -> Decided
-    ensures { result ≡ refusing h r }
-{
-    Decided {
-        heap: h,
-        answer: Answer::Refused(r),
-        heads: Writes {
-            one: nothing(),
-            two: nothing(),
-        },
-    }
-}
+use rules::{Decided, Done, Head, Heap, Place, Refusal, Write, Writes};
 
 // Writes a number into the eight bytes from an index on.
+#[tactic(auto, using(crate::proofs::Words::put_between))]
 fn put_word(m: &mut [u8], i: usize, x: u64)
     requires { i + 8 ≤ length m.old }
     ensures { m.new ≡ store 8 m.old i x }
 {
-    let mut at = i;
-    let mut rest = x;
-    let mut left: usize = 8;
-    while 0 < left {
-        m[at] = (rest % 256) as u8;
-        at += 1;
-        rest = rest / 256;
-        left -= 1;
-    }
+    m[i..i + 8].copy_from_slice(&x.to_le_bytes());
 }
 
 // The head writer: it makes a hole of the sixteen bytes that it is lent.
+#[tactic(auto, unfolding(rules::specs::Holes::put_head))]
 fn make_hole(head: &mut [u8], size: u64, next: Place)
     requires { length head.old ≡ min_size }
     ensures { head.new ≡ put_head head.old (place 0) (record { size = size; next = next }) }
@@ -71,30 +39,45 @@ fn put_head(arena: &mut [u8], at: Place, head: Head)
     make_hole(&mut arena[i..i + 16], head.size, next);
 }
 
-// Writes a head at its place; at none, nothing.
-fn put(arena: &mut [u8], w: Write)
-    requires { Inside arena.old w.at }
+// Writes a head at its place, if there is one.
+#[tactic(auto, unfolding(rules::specs::Inner::put))]
+fn put(arena: &mut [u8], w: Option<Write>)
+    requires { Lands arena.old w }
     ensures { arena.new ≡ Inner.put w arena.old }
 {
-    let at = w.at;
-    if at.0 == NONE {
-        return;
+    if let Some(w) = w {
+        put_head(arena, w.at, w.head);
     }
-    let head = w.head;
-    put_head(arena, at, head);
 }
 
-// Writes what a call decided, and gives back its heap and its answer. Nothing else writes a head.
-pub fn write(arena: &mut [u8], d: Decided) -> Done
-    requires { Inside arena.old d.heads.one.at × Inside arena.old d.heads.two.at }
-    ensures { (result.answer ≡ d.answer) × (result.heap ≡ d.heap) × (arena.new ≡ written d.heads arena.old) }
+// Writes the heads that a call decided. Nothing else writes a head.
+#[tactic(auto, unfolding(rules::specs::Inner::written))]
+pub fn write(arena: &mut [u8], heads: Writes)
+    requires { Lands arena.old heads.one × Lands arena.old heads.two }
+    ensures { arena.new ≡ written heads arena.old }
 {
-    let heads = d.heads;
-    let one = heads.one;
-    let two = heads.two;
-    put(arena, one);
-    put(arena, two);
-    let heap = d.heap;
-    let answer = d.answer;
-    Done { heap, answer }
+    put(arena, heads.one);
+    put(arena, heads.two);
+}
+
+// Carries out what a call decided, and gives back its heap and its answer. A refused call leaves heap and
+// arena as they are.
+#[tactic(auto, unfolding(rules::specs::Inner::carried))]
+pub fn carry_out(h: Heap, arena: &mut [u8], decided: Result<Decided, Refusal>) -> Done
+    requires { Writable arena.old decided }
+    ensures { Is (carried h arena.old decided) result arena.new }
+{
+    match decided {
+        Ok(d) => {
+            write(arena, d.heads);
+            Done {
+                heap: d.heap,
+                answer: Ok(d.answer),
+            }
+        }
+        Err(r) => Done {
+            heap: h,
+            answer: Err(r),
+        },
+    }
 }

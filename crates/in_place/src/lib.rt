@@ -11,10 +11,10 @@ ghost use Rattle.rules.specs.Calls as Calls;
 ghost use Rattle.rules.specs.Outcome.{after};
 ghost use Rattle.in_place.specs.Stored.{Stored};
 
-use rules::{Addr, Answer, Heap};
+use rules::{Addr, Answer, Heap, Refusal};
 
 // Grants a block, or refuses: a refusal alters neither the lent heap nor the arena.
-pub fn allocate(heap: &mut Heap, arena: &mut [u8], size: u64, align: u64) -> Answer
+pub fn allocate(heap: &mut Heap, arena: &mut [u8], size: u64, align: u64) -> Result<Answer, Refusal>
     ensures { (result ≡ (after (Calls.allocate size align) heap.old arena.old).answer) × (heap.new ≡ (after (Calls.allocate size align) heap.old arena.old).heap) × (arena.new ≡ (after (Calls.allocate size align) heap.old arena.old).arena) }
 {
     let done = allocate::allocate(*heap, arena, size, align);
@@ -23,7 +23,13 @@ pub fn allocate(heap: &mut Heap, arena: &mut [u8], size: u64, align: u64) -> Ans
 }
 
 // Takes a block back, named by its address, size and alignment, or refuses.
-pub fn free(heap: &mut Heap, arena: &mut [u8], addr: Addr, size: u64, align: u64) -> Answer
+pub fn free(
+    heap: &mut Heap,
+    arena: &mut [u8],
+    addr: Addr,
+    size: u64,
+    align: u64,
+) -> Result<Answer, Refusal>
     ensures { (result ≡ (after (Calls.free addr size align) heap.old arena.old).answer) × (heap.new ≡ (after (Calls.free addr size align) heap.old arena.old).heap) × (arena.new ≡ (after (Calls.free addr size align) heap.old arena.old).arena) }
 {
     let done = free::free(*heap, arena, addr, size, align);
@@ -39,7 +45,7 @@ pub fn resize(
     old: u64,
     align: u64,
     new: u64,
-) -> Answer
+) -> Result<Answer, Refusal>
     ensures { Stored (after (Calls.resize addr old align new) heap.old arena.old) result heap.new arena.new }
 {
     let done = resize::resize(*heap, arena, addr, old, align, new);

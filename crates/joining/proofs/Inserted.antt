@@ -5,6 +5,7 @@ use mathlib.Core.Bool.{true, false}
 use mathlib.Core.List.{List, [], ◌∷◌, ◌++◌, append_assoc}
 use Prim.Native.Nat.{ℕ, ◌+◌}
 use native.Mathlib.Omega.{arith}
+use Rattle.std.proofs.Common.{Some, None}
 use borrow.Author.Tests.{eqb-true, eqb-false, ne_eqb}
 use Rattle.rules.specs.Kinds.{place_of, none, is_none}
 use Rattle.rules.specs.Holes.{hole, end, head_at, first_of}
@@ -14,12 +15,11 @@ use Rattle.rules.specs.declared.Place.{Place}
 use Rattle.rules.specs.declared.Head.{Head}
 use Rattle.rules.specs.declared.Hole.{Hole}
 use Rattle.rules.specs.declared.Heap.{Heap}
-use Rattle.rules.specs.Inner.{write, nothing, put, written, end_or}
+use Rattle.rules.specs.Inner.{write, put, written, end_or}
 use Rattle.rules.proofs.Cases.{cases, apart}
 use Rattle.rules.proofs.Rises.{rises_le, rises_front, rises_back, rises_append}
 use Rattle.rules.proofs.Freed.{freed_first, freed_apart, freed_touch}
 use Rattle.rules.proofs.Relink.{put_one}
-use Rattle.rules.proofs.Written.{put_some}
 use Rattle.walk.specs.declared.Cursor.{Cursor}
 use Rattle.walk.specs.Walk.{last_place}
 use Rattle.walk.specs.Settled.{Settled}
@@ -65,12 +65,6 @@ module _ (h : Heap) (m : List ℕ) (g : Hole) (front back : List Hole) (s : Betw
   abbrev head : Head
   head = merged_head h.base m g (first_of h.base back)
 
-  at_place : at.0 ≡ none.0 → ⊥
-  at_place e =
-      let f = s.fair in
-      let u = rises_le (end g).0 (h.base.0 + h.len) back s.behind in
-      omega (arith, bounds h m g front back s)
-
   -- ---- the hole before the span does not touch it, or there is none
 
   freed_between : (Touches m prev at → ⊥) → freed g (front ++ back) ≡ front ++ in_front g back
@@ -90,8 +84,8 @@ module _ (h : Heap) (m : List ℕ) (g : Hole) (front back : List Hole) (s : Betw
 
   -- the span's own head is written, and the link to it
   insert_own : (Touches m prev at → ⊥)
-      → Linked h.base m (freed g (front ++ back)) (linked_to h.first m prev at (record { at = at; head = head }))
-  unfolding first_of
+      → Linked h.base m (freed g (front ++ back)) (linked_to h.first m prev at (Some (record { at = at; head = head })))
+  unfolding first_of put
   insert_own n =
       let o = one h m g front back s in
       let base = h.base in
@@ -116,15 +110,14 @@ module _ (h : Heap) (m : List ℕ) (g : Hole) (front back : List Hole) (s : Betw
       } in
       let own = write at o.size (first_of base o.rest) in
       rw (new, o.head)
-      (links front middle own (λ n. (bounds h m g front back s).inside)
-      (put_some own m at_place ∙ sym (put_one base k (first_of base o.rest) m)))
+      (links front middle own (bounds h m g front back s).inside (sym (put_one base k (first_of base o.rest) m)))
 
   -- ---- the hole before the span touches it
 
   -- its head is written again, with a larger size; the link to it is as it was
   insert_longer : Last h m g front back → Touches m prev at
       → Linked h.base m (freed g (front ++ back))
-      (relinked h.first (write prev ((head_at m prev).size + head.size) head.next) nothing)
+      (relinked h.first (write prev ((head_at m prev).size + head.size) head.next) None)
   unfolding first_of put written
   insert_longer t touches =
       let o = one h m g front back s in
@@ -161,9 +154,9 @@ module _ (h : Heap) (m : List ℕ) (g : Hole) (front back : List Hole) (s : Betw
       rw (new, t.head, t.place, o.head)
       (keeps middle refl
       (record {
-        one = rw t.place at (bounds h m g front back s).before;
-        two = λ n. absurd (n refl);
-        arena = put_some own m (rw t.place at touches.0) ∙ sym (put_one base j (first_of base o.rest) m);
+        one = (rw t.place at (bounds h m g front back s).before) (rw t.place at touches.0);
+        two = tt;
+        arena = sym (put_one base j (first_of base o.rest) m);
       }))
 
 -- ---- by the places of a cursor
@@ -187,7 +180,7 @@ module _ {h : Heap} {m : List ℕ} {cursor : Cursor} {g : Hole} (s : Settled h m
 
     module _ {at : Place} (there : at ≡ place_of h.base g.addr) where
       pub insert_apart : ends_at m cursor.prev at ≡ false
-          → Linked h.base m (freed g (holes h m)) (linked_to h.first m cursor.prev at (record { at = at; head = head }))
+          → Linked h.base m (freed g (holes h m)) (linked_to h.first m cursor.prev at (Some (record { at = at; head = head })))
       insert_apart e =
           let b = between h m cursor g s f in
           let n = rw (f.prev, there) at (ends_apart m cursor.prev at e) in
@@ -198,7 +191,7 @@ module _ {h : Heap} {m : List ℕ} {cursor : Cursor} {g : Hole} (s : Settled h m
 
       pub insert_joined : {before : Head} → ends_at m cursor.prev at ≡ true → before ≡ head_at m cursor.prev
           → Linked h.base m (freed g (holes h m))
-          (relinked h.first (write cursor.prev (before.size + head.size) head.next) nothing)
+          (relinked h.first (write cursor.prev (before.size + head.size) head.next) None)
       insert_joined e read =
           let b = between h m cursor g s f in
           let t = rw (f.prev, there) at (ends_touch m cursor.prev at e) in

@@ -6,7 +6,8 @@ use mathlib.Core.List.{List, [], ◌∷◌, ◌++◌}
 use Prim.Native.Nat.{ℕ, ◌+◌, ◌-◌, ◌^◌, ◌≤◌, ◌<◌}
 use native.Mathlib.Omega.{arith}
 use lib.ListN.{length}
-use borrow.Author.Tests.{ne_eqb}
+use Rattle.std.proofs.Common.{Option}
+use borrow.Author.Tests.{eqb-false, ne_eqb}
 use Rattle.rules.specs.Fixed.{min_size}
 use Rattle.rules.specs.Kinds.{place_of, none, is_none}
 use Rattle.rules.specs.Holes.{head_at, first_of}
@@ -15,7 +16,7 @@ use Rattle.rules.specs.declared.Place.{Place}
 use Rattle.rules.specs.declared.Hole.{Hole}
 use Rattle.rules.specs.declared.Write.{Write}
 use Rattle.rules.specs.declared.Writes.{Writes}
-use Rattle.rules.specs.Inner.{Bytes, first_or, put_heads_to, put, write, written, Inside, Leaves, Relinks, Rises, end_or}
+use Rattle.rules.specs.Inner.{Bytes, first_or, put_heads_to, put, write, written, Lands, Leaves, Relinks, Rises, end_or}
 use Rattle.rules.proofs.Rises.{rises_le, rises_widen, rises_front, rises_back}
 use Rattle.rules.proofs.Lists.{first_or_lem, first_append, Holds}
 use Rattle.rules.proofs.Relink.{link, relink, relink_same}
@@ -71,7 +72,7 @@ put_last : (base : Addr) (lo hi : ℕ) (front : List Hole) (k : Hole) (p to : Pl
     → Rises lo hi (k ∷ front) → Holds base m (k ∷ front) p
     → put (write (last_place base none (k ∷ front)) (head_at m (last_place base none (k ∷ front))).size to) m₁ ≡ link base (k ∷ front) to m₁
 unfolding put last_place link
-put_last base lo hi [] k p to m m₁ a b r t = rw (ne_eqb (k.addr.0 - base.0) none.0 (λ e. omega arith), t.0)
+put_last base lo hi [] k p to m m₁ a b r t = rw t.0
 put_last base lo hi (j ∷ js) k p to m m₁ a b r t =
     put_last base (k.addr.0 + k.size) hi js j p to m m₁ (omega arith) b r.2 t.1
 
@@ -108,18 +109,18 @@ module _ {base : Addr} {m : List ℕ} {front mid back : List Hole} {p first : Pl
 -- else the link to the middle is written too
 pub links : {base : Addr} {m : List ℕ} (front : List Hole) {mid back : List Hole} {p first : Place}
     → Middle base m front mid back p first
-    → (one : Write) → Inside m one.at → put one m ≡ put_heads_to base mid (first_of base back) m
+    → (one : Option Write) → Lands m one → put one m ≡ put_heads_to base mid (first_of base back) m
     → Linked base m (front ++ (mid ++ back)) (linked_to first m (last_place base none front) (first_of base (mid ++ back)) one)
 unfolding linked_to last_place link put written first_of
 links {base} {m} [] {mid} {back} {p} s one i e =
     let all = relink base s.lo s.hi [] mid back p m s.bytes s.low s.rises s.before s.behind in
-    record { first = refl; heads = record { one = i; two = λ n. absurd (n refl); arena = e ∙ sym all } }
+    record { first = refl; heads = record { one = i; two = tt; arena = e ∙ sym all } }
 links {base} {m} (k ∷ ks) {mid} {back} {p} s one i e =
     let to = first_of base (mid ++ back) in
     let all = relink base s.lo s.hi (k ∷ ks) mid back p m s.bytes s.low s.rises s.before s.behind in
     let r = front_rises s.lo s.hi (k ∷ ks) (mid ++ back) s.rises in
     let some = last_place_lem base none s.lo s.hi k ks s.low s.small r in
-    let two = last_inside base s.lo s.hi (length m) (k ∷ ks) s.low s.lent r in
+    let two = last_inside base s.lo s.hi (length m) (k ∷ ks) s.low s.lent r (eqb-false _ _ some) in
     let both = put_last base s.lo s.hi ks k p to m (put_heads_to base mid (first_of base back) m) s.low s.small r s.before in
     rw some (record {
       first = s.begins;

@@ -25,7 +25,7 @@ use Rattle.walk.specs.declared.Cursor.{Cursor}
 use Rattle.walk.specs.Settled.{Settled}
 use Rattle.joining.specs.Span.{Free, linked_to, merged_head, remainder, leads_to}
 use Rattle.joining.proofs.Linked.{Linked, Middle, first_on, links}
-use Rattle.joining.proofs.Remainder.{remainder_put, remainder_first, remainder_inside}
+use Rattle.joining.proofs.Remainder.{remainder_put, remainder_first, remainder_lands}
 use Rattle.joining.proofs.Between.{Between, between, beyond, one, span_low, bounds}
 
 module _ (h : Heap) (m : List ℕ) (g : Hole) (front back : List Hole) (s : Between h m g front back) where
@@ -82,10 +82,10 @@ module _ (h : Heap) (m : List ℕ) (g : Hole) (front back : List Hole) (s : Betw
           begins = s.first ∙ sym (first_on base front back);
         } in
         let high : to.0 ≤ addr_limit = omega arith in
-        rw (resized_is, remainder_first base from to q high up, first_on base mid rest)
+        rw (resized_is, remainder_first base from to q, first_on base mid rest)
         (links front middle (remainder base from to q)
-        (remainder_inside base from to q high up m (λ n. omega (arith, gap_apart from.0 to.0 d n, s.lent, low)))
-        (remainder_put base from to q high up m))
+        (remainder_lands base from to q m (λ n. omega (arith, gap_apart from.0 to.0 d n, s.lent, low)))
+        (remainder_put base from to q m))
 
 -- ---- by the places of a cursor
 

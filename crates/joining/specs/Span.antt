@@ -1,5 +1,5 @@
 -- A list of holes that changes in the middle, and a span that is to become free between its neighbours. Definitions only.
-use Rattle.std.specs.Prelude.{◌≡◌, Bool, false, cond, List, ◌++◌, ℕ, ◌+◌, ◌≤◌, eqb}
+use Rattle.std.specs.Prelude.{◌≡◌, Option, Some, None, Bool, false, cond, List, ◌++◌, ℕ, ◌+◌, ◌≤◌, eqb}
 use Rattle.rules.specs.Fixed.{min_size, addr_limit}
 use Rattle.rules.specs.Kinds.{addr_of, place_of, none, is_none, bytes_to, same}
 use Rattle.rules.specs.Holes.{end, head_at, first_of}
@@ -9,30 +9,31 @@ use Rattle.rules.specs.declared.Head.{Head}
 use Rattle.rules.specs.declared.Hole.{Hole}
 use Rattle.rules.specs.declared.Heap.{Heap}
 use Rattle.rules.specs.declared.Write.{Write}
-use Rattle.rules.specs.Inner.{write, nothing, Inside, Rises, end_or}
+use Rattle.rules.specs.Inner.{write, Inside, Rises, end_or}
 use Rattle.walk.specs.Walk.{last_place}
 use Rattle.walk.specs.declared.Cursor.{Cursor}
 use Rattle.joining.specs.declared.Relinked.{Relinked}
 
 -- ---- the link
 
-abbrev pub relinked : Place → Write → Write → Relinked
+abbrev pub relinked : Place → Option Write → Option Write → Relinked
 relinked first one two = record { first = first; heads = record { one = one; two = two } }
 
 -- the list begins at the place to, where no hole is before; else the hole before leads there, with the size that it has
-unfoldable pub linked_to : Place → List ℕ → Place → Place → Write → Relinked
+unfoldable pub linked_to : Place → List ℕ → Place → Place → Option Write → Relinked
 linked_to first m prev to one =
-    cond (is_none prev) (relinked to one nothing) (relinked first one (write prev (head_at m prev).size to))
+    cond (is_none prev) (relinked to one None) (relinked first one (write prev (head_at m prev).size to))
 
 -- ---- what remains of a stretch
 
 -- what remains between two addresses, as a head to be written
-unfoldable pub remainder : Addr → Addr → Addr → Place → Write
-remainder base lo hi next = cond (same lo hi) nothing (write (place_of base lo) (bytes_to lo hi) next)
+unfoldable pub remainder : Addr → Addr → Addr → Place → Option Write
+remainder base lo hi next = cond (same lo hi) None (write (place_of base lo) (bytes_to lo hi) next)
 
 -- its place, or that of the next hole
-unfoldable pub leads_to : Write → Place → Place
-leads_to w next = cond (is_none w.at) next w.at
+unfoldable pub leads_to : Option Write → Place → Place
+leads_to None next = next
+leads_to (Some w) next = w.at
 
 -- ---- the span
 

@@ -9,12 +9,11 @@ ghost use Rattle.rules.specs.Free.{freed};
 ghost use Rattle.rules.specs.Resize.{resized};
 ghost use Rattle.rules.specs.InWords.{Gap};
 ghost use Rattle.rules.specs.Inner.{Inside, Relinks};
-ghost use Rattle.walk.specs.Settled.{Settled};
 ghost use Rattle.joining.specs.Span.{Free, MayMerge, MayEnd, merged_head, remainder, leads_to, linked_to, ends_at};
 
-use hole::{addr_of, nothing, place_of, read_head};
-use rules::{Addr, Head, Heap, Hole, NONE, Place, Write, Writes};
-use walk::Cursor;
+use hole::{addr_of, place_of, read_head};
+use rules::{Addr, Head, Hole, NONE, Place, Write, Writes};
+use walk::{Cursor, Sound};
 
 // What becomes of the list: the place of its first hole, and the heads to be written.
 #[derive(Clone, Copy)]
@@ -25,27 +24,25 @@ pub struct Relinked {
 
 // The hole before leads to a place, or the list begins there where no hole is before; one more head may
 // be written first.
-pub fn link(first: Place, arena: &[u8], prev: Place, to: Place, one: Write) -> Relinked
+#[tactic(auto, unfolding(crate::specs::Span::linked_to))]
+pub fn link(first: Place, arena: &[u8], prev: Place, to: Place, one: Option<Write>) -> Relinked
     requires { Inside arena.now prev }
     ensures { result ≡ linked_to first arena.now prev to one }
 {
-    if prev.0 == NONE {
+    if prev == NONE {
         return Relinked {
             first: to,
-            heads: Writes {
-                one,
-                two: nothing(),
-            },
+            heads: Writes { one, two: None },
         };
     }
     let before = read_head(arena, prev);
-    let two = Write {
+    let two = Some(Write {
         at: prev,
         head: Head {
             size: before.size,
             next: to,
         },
-    };
+    });
     Relinked {
         first,
         heads: Writes { one, two },
@@ -54,44 +51,46 @@ pub fn link(first: Place, arena: &[u8], prev: Place, to: Place, one: Write) -> R
 
 // What remains between two addresses becomes a hole that leads to `next`; between equal ones nothing
 // remains.
-pub fn remains(base: Addr, lo: Addr, hi: Addr, next: Place) -> Write
+#[tactic(auto, unfolding(crate::specs::Span::remainder))]
+pub fn remains(base: Addr, lo: Addr, hi: Addr, next: Place) -> Option<Write>
     requires { (base.0 ≤ lo.0) × (lo.0 ≤ hi.0) }
     ensures { result ≡ remainder base lo hi next }
 {
-    if lo.0 == hi.0 {
-        return nothing();
+    if lo == hi {
+        return None;
     }
-    Write {
+    Some(Write {
         at: place_of(base, lo),
         head: Head {
             size: hi.0 - lo.0,
             next,
         },
-    }
+    })
 }
 
 // The place of what remains; where nothing does, that of the next hole.
-pub fn leads(w: Write, next: Place) -> Place
+#[tactic(auto, unfolding(crate::specs::Span::leads_to))]
+pub fn leads(w: Option<Write>, next: Place) -> Place
     ensures { result ≡ leads_to w next }
 {
-    let at = w.at;
-    if at.0 == NONE {
-        return next;
+    match w {
+        Some(w) => w.at,
+        None => next,
     }
-    at
 }
 
 // The head of a span that is followed by a hole at a place, or by none: joined with it if it touches
 // it, else leading to it.
+#[tactic(auto, unfolding(crate::specs::Span::merged_head))]
 pub fn try_merge_next(base: Addr, arena: &[u8], span: Hole, hole: Place) -> Head
     requires { MayMerge base arena.now span hole }
     ensures { result ≡ merged_head base arena.now span hole }
 {
     let size = span.size;
-    if hole.0 == NONE {
+    if hole == NONE {
         return Head { size, next: hole };
     }
-    if span.addr.0 + size != addr_of(base, hole).0 {
+    if Addr(span.addr.0 + size) != addr_of(base, hole) {
         return Head { size, next: hole };
     }
     let head = read_head(arena, hole);
@@ -103,11 +102,12 @@ pub fn try_merge_next(base: Addr, arena: &[u8], span: Hole, hole: Place) -> Head
 }
 
 // A hole at a place, where there is one, ends at another place.
+#[tactic(auto, unfolding(crate::specs::Span::ends_at))]
 fn ends_at(arena: &[u8], prev: Place, at: Place) -> bool
     requires { MayEnd arena.now prev }
     ensures { result ≡ ends_at arena.now prev at }
 {
-    if prev.0 == NONE {
+    if prev == NONE {
         return false;
     }
     let before = read_head(arena, prev);
@@ -116,57 +116,53 @@ fn ends_at(arena: &[u8], prev: Place, at: Place) -> bool
 
 // Inserts a span between the holes of a cursor. It is joined with the hole behind it, and then with
 // the one before.
-pub fn insert(h: Heap, arena: &[u8], cursor: Cursor, span: Hole) -> Relinked
-    requires { Settled h arena.now × Free h (holes h arena.now) cursor span }
-    ensures { Relinks h.base arena.now (freed span (holes h arena.now)) result.first result.heads }
+pub fn insert(sound: Sound<'_>, cursor: Cursor, span: Hole) -> Relinked
+    requires { Free sound.loan.heap (holes sound.loan.heap sound.loan.arena.now) cursor span }
+    ensures { Relinks sound.entry.loan.heap.base sound.entry.loan.arena.now (freed span (holes sound.entry.loan.heap sound.entry.loan.arena.now)) result.first result.heads }
 {
-    let base = h.base;
-    let first = h.first;
+    let arena = sound.loan.arena;
+    let base = sound.loan.heap.base;
+    let first = sound.loan.heap.first;
     let prev = cursor.prev;
-    let hole = cursor.hole;
-    let merged = try_merge_next(base, arena, span, hole);
+    let merged = try_merge_next(base, arena, span, cursor.hole);
     let next = merged.next;
     let at = place_of(base, span.addr);
     if !ends_at(arena, prev, at) {
-        return link(first, arena, prev, at, Write { at, head: merged });
+        return link(first, arena, prev, at, Some(Write { at, head: merged }));
     }
     let before = read_head(arena, prev);
-    let one = Write {
+    let one = Some(Write {
         at: prev,
         head: Head {
             size: before.size + merged.size,
             next,
         },
-    };
+    });
     Relinked {
         first,
-        heads: Writes {
-            one,
-            two: nothing(),
-        },
+        heads: Writes { one, two: None },
     }
 }
 
 // A block between the holes of a cursor has `want` bytes from now on. The rest of its stretch, which is
 // the block and the hole behind it where that touches it, becomes a hole or nothing.
 pub fn link_rest(
-    h: Heap,
-    arena: &[u8],
+    sound: Sound<'_>,
     cursor: Cursor,
     block: Hole,
     stretch: Head,
     want: u64,
 ) -> Relinked
-    requires { Settled h arena.now × Free h (holes h arena.now) cursor block × (stretch ≡ merged_head h.base arena.now block cursor.hole) × Gap (block.addr.0 + want) (block.addr.0 + stretch.size) }
-    ensures { Relinks h.base arena.now (resized block want (holes h arena.now)) result.first result.heads }
+    requires { Free sound.loan.heap (holes sound.loan.heap sound.loan.arena.now) cursor block × (stretch ≡ merged_head sound.loan.heap.base sound.loan.arena.now block cursor.hole) × Gap (block.addr.0 + want) (block.addr.0 + stretch.size) }
+    ensures { Relinks sound.entry.loan.heap.base sound.entry.loan.arena.now (resized block want (holes sound.entry.loan.heap sound.entry.loan.arena.now)) result.first result.heads }
 {
-    let base = h.base;
+    let arena = sound.loan.arena;
+    let base = sound.loan.heap.base;
     let addr = block.addr;
     let next = stretch.next;
     let end = Addr(addr.0 + stretch.size);
     let rest = remains(base, Addr(addr.0 + want), end, next);
     let to = leads(rest, next);
-    let first = h.first;
-    let prev = cursor.prev;
-    link(first, arena, prev, to, rest)
+    let first = sound.loan.heap.first;
+    link(first, arena, cursor.prev, to, rest)
 }

@@ -1,13 +1,17 @@
-// The rounded size of a request, or refusal 6. No function here has a `requires`: any two numbers
-// may be asked for.
+// The layout of a request: its rounded size and its alignment, or none where refusal 6 is due. No function
+// here has a `requires`: any two numbers may be asked for.
 #![tactic(auto)]
 
-ghost use Rattle.std.specs.Prelude.{◌≡◌, max};
+mod valid;
+
+ghost use Rattle.std.specs.Prelude.{◌≡◌, None, MatchOption};
 ghost use Rattle.rules.specs.Fixed.{min_size};
 ghost use Rattle.rules.specs.Refusals.{layout_of};
+ghost use Rattle.layout.specs.Lays.{Lays};
 
 use align::align_up_size;
-use rules::{ADDR_LIMIT, GRAIN, Layout, MIN_SIZE};
+use rules::{ADDR_LIMIT, GRAIN, MIN_SIZE};
+pub use valid::Layout;
 
 // The least size of a hole: the bytes of its head.
 pub fn min_size() -> u64
@@ -16,28 +20,24 @@ pub fn min_size() -> u64
     MIN_SIZE
 }
 
-// The larger of a size and the least size.
-fn at_least_min(size: u64) -> u64
-    ensures { result ≡ max size min_size }
-{
-    if size < min_size() { min_size() } else { size }
-}
-
-// The size that a request takes: the larger of `size` and the least size, rounded up to a multiple
-// of 8, or Bad where refusal 6 is due. The alignment is known by its count of ones, where the
+// The layout that a request has: the larger of `size` and the least size, rounded up to a multiple
+// of 8, or none where refusal 6 is due. The alignment is known by its count of ones, where the
 // original trusts its `Layout`. A size above 2^63 is refused before any sum, which could wrap.
-pub fn align_layout(size: u64, align: u64) -> Layout
-    ensures { result ≡ layout_of size align }
+pub fn align_layout(size: u64, align: u64) -> Option<Layout>
+    ensures { MatchOption result (layout_of size align ≡ None) (Lays size align) }
 {
     if u64::count_ones(align) != 1 {
-        return Layout::Bad;
+        return None;
     }
     if ADDR_LIMIT < size {
-        return Layout::Bad;
+        return None;
     }
-    let rounded = align_up_size(at_least_min(size), GRAIN);
+    let rounded = align_up_size(size.max(MIN_SIZE), GRAIN);
     if ADDR_LIMIT - align < rounded {
-        return Layout::Bad;
+        return None;
     }
-    Layout::Rounded(rounded)
+    Some(Layout {
+        size: rounded,
+        align,
+    })
 }

@@ -3,54 +3,55 @@
 // the original and Rust's own `Layout`; the stored output is what it printed.
 #![tactic(auto)]
 
-use layout::align_layout;
-use rules::Layout;
+use layout::{Layout, align_layout};
 use std::io;
 
-fn space(rt: &impl Print) -> io::Result<()> {
-    print!(rt; " ")
-}
+const SIZES: [u64; 16] = [
+    0,
+    1,
+    15,
+    16,
+    17,
+    0x3fff_ffff_ffff_fff8,
+    0x4000_0000_0000_0000,
+    0x4000_0000_0000_0001,
+    0x7fff_ffff_ffff_f000,
+    0x7fff_ffff_ffff_fff8,
+    0x7fff_ffff_ffff_fff9,
+    0x7fff_ffff_ffff_ffff,
+    0x8000_0000_0000_0000,
+    0x8000_0000_0000_0001,
+    0xffff_ffff_ffff_fff8,
+    0xffff_ffff_ffff_ffff,
+];
+
+const ALIGNS: [u64; 10] = [
+    0,
+    1,
+    2,
+    3,
+    8,
+    4096,
+    0x4000_0000_0000_0000,
+    0x7fff_ffff_ffff_ffff,
+    0x8000_0000_0000_0000,
+    0xffff_ffff_ffff_ffff,
+];
 
 fn case(rt: &impl Print, size: u64, align: u64) -> io::Result<()> {
-    print!(rt; "{size:016x}")?;
-    space(rt)?;
-    print!(rt; "{align:016x}")?;
-    space(rt)?;
-    let answer = align_layout(size, align);
-    match answer {
-        Layout::Rounded(rounded) => println!(rt; "{rounded:016x}"),
-        Layout::Bad => println!(rt; "-"),
+    match align_layout(size, align) {
+        Some(Layout { size: rounded, .. }) => println!(rt;
+            "{size:016x} {align:016x} {rounded:016x}"
+        ),
+        None => println!(rt; "{size:016x} {align:016x} -"),
     }
 }
 
-fn aligned(rt: &impl Print, size: u64) -> io::Result<()> {
-    case(rt, size, 0)?;
-    case(rt, size, 1)?;
-    case(rt, size, 2)?;
-    case(rt, size, 3)?;
-    case(rt, size, 8)?;
-    case(rt, size, 4096)?;
-    case(rt, size, 0x4000_0000_0000_0000)?;
-    case(rt, size, 0x7fff_ffff_ffff_ffff)?;
-    case(rt, size, 0x8000_0000_0000_0000)?;
-    case(rt, size, 0xffff_ffff_ffff_ffff)
-}
-
 fn main(rt: HostRuntime) -> io::Result<()> {
-    aligned(&rt, 0)?;
-    aligned(&rt, 1)?;
-    aligned(&rt, 15)?;
-    aligned(&rt, 16)?;
-    aligned(&rt, 17)?;
-    aligned(&rt, 0x3fff_ffff_ffff_fff8)?;
-    aligned(&rt, 0x4000_0000_0000_0000)?;
-    aligned(&rt, 0x4000_0000_0000_0001)?;
-    aligned(&rt, 0x7fff_ffff_ffff_f000)?;
-    aligned(&rt, 0x7fff_ffff_ffff_fff8)?;
-    aligned(&rt, 0x7fff_ffff_ffff_fff9)?;
-    aligned(&rt, 0x7fff_ffff_ffff_ffff)?;
-    aligned(&rt, 0x8000_0000_0000_0000)?;
-    aligned(&rt, 0x8000_0000_0000_0001)?;
-    aligned(&rt, 0xffff_ffff_ffff_fff8)?;
-    aligned(&rt, 0xffff_ffff_ffff_ffff)
+    for size in SIZES {
+        for align in ALIGNS {
+            case(&rt, size, align)?;
+        }
+    }
+    Ok(())
 }

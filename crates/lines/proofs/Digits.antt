@@ -1,70 +1,56 @@
--- Digits, as code reads them one by one. Assumes nothing.
-use mathlib.Core.Path.{◌≡◌, refl}
-use mathlib.Core.Bool.{true, false}
-use mathlib.Core.List.{List, [], ◌∷◌}
-use Prim.Native.Nat.{ℕ, zero, suc, ◌+◌, ◌-◌, ◌*◌, ◌^◌, ◌≤◌, ◌<◌}
-use native.Mathlib.Omega.{arith}
-use native.Mathlib.Numerals.{add-one}
-use native.Mathlib.Nat.{pow-suc, pow-le-pow_right}
+-- Digits, as code reads them: of two parts, and one by one. Assumes nothing.
+use Rattle.std.proofs.Common.{◌≡◌, ◌∙◌, ◌+◌, ◌*◌, ◌^◌, ◌≤◌, ◌<◌, ◌&&◌, ◌∷◌, ◌++◌}
+use Rattle.std.proofs.Common.{sym, ap, true, false, ℕ, List, [], Some, None, length, drop, get_or, refl, arith, add-one, drop-cons}
+use Rattle.std.proofs.lemmas.Option.{cond_some}
+use Rattle.std.proofs.Math.Nat.{pow-suc, pow-le-pow_right}
+use Rattle.std.proofs.lemmas.Option.{none-some}
+use Rattle.std.proofs.Math.Bool.{and_assoc}
 use lib.Dec.{ltb}
-use lib.ListN.{length, take, drop, get_or, drop_of_length-le}
-use lib.Seq.{drop-cons, take-nil}
-use borrow.Author.Tests.{ltb-true, lt-ltb, le-ltb}
-use Rattle.rules.proofs.Cases.{and_left, and_right}
+use lib.ListN.{drop_of_length-le}
+use borrow.Author.Tests.{lt-ltb}
+use Rattle.rules.proofs.Cases.{cases}
 use Rattle.lines.specs.Frames.{digit, digits, value}
+use Rattle.lines.specs.Read.{read}
 
--- ---- the test of each
+-- ---- the digits of two parts
 
--- a digit passes the test on
-pub digits_on : (line : List ℕ) (i : ℕ) → i < length line → digit (get_or line i 0) < 16
-    → digits (drop i line) ≡ digits (drop (i + 1) line)
+pub digits_append : (xs ys : List ℕ) → digits (xs ++ ys) ≡ (digits xs && digits ys)
 unfolding digits
-digits_on line i l d = rw (drop-cons line i 0, add-one, lt-ltb (digit (get_or line i 0)) 16)
+digits_append [] ys = refl
+digits_append (x ∷ xs) ys =
+    ap (λ b. ltb (digit x) 16 && b) (digits_append xs ys) ∙ sym (and_assoc (ltb (digit x) 16) (digits xs) (digits ys))
 
--- any other byte ends it
-pub digits_off : (line : List ℕ) (i : ℕ) → i < length line → 16 ≤ digit (get_or line i 0) → digits (drop i line) ≡ false
-unfolding digits
-digits_off line i l d = rw (drop-cons line i 0, le-ltb (digit (get_or line i 0)) 16)
+-- ---- a number, or none
 
--- behind the last byte there is none left to test
-pub digits_end : (line : List ℕ) (i : ℕ) → length line ≤ i → digits (drop i line) ≡ true
-unfolding digits
-digits_end [] zero l = refl
-digits_end [] (suc i) l = refl
-digits_end (b ∷ line) zero l = absurd (omega arith)
-digits_end (b ∷ line) (suc i) l = digits_end line i (omega arith)
+pub read_some : (bytes : List ℕ) (n : ℕ) → read 0 bytes ≡ Some n → (digits bytes ≡ true) × (value 0 bytes ≡ n)
+unfolding read
+read_some bytes n e = cond_some (digits bytes) (value 0 bytes) n e
 
-pub digit_below : (line : List ℕ) (i : ℕ) → digits line ≡ true → i < length line → digit (get_or line i 0) < 16
-unfolding digits
-digit_below [] i e l = absurd (omega arith)
-digit_below (b ∷ line) zero e l = ltb-true (digit b) 16 (and_left (ltb (digit b) 16) (digits line) e)
-digit_below (b ∷ line) (suc i) e l = digit_below line i (and_right (ltb (digit b) 16) (digits line) e) (omega arith)
+pub read_none : (bytes : List ℕ) → read 0 bytes ≡ None → digits bytes ≡ false
+unfolding read
+read_none bytes e = cases (digits bytes) (λ d. absurd (none-some (value 0 bytes) (sym e ∙ rw d refl))) (λ d. d)
 
--- ---- the number that they make
+-- ---- digit by digit
 
--- one digit of n
-pub value_on : (sum n : ℕ) (line : List ℕ) (i : ℕ) → 0 < n → i < length line
-    → value (sum * 16 + digit (get_or line i 0)) (take (n - 1) (drop (i + 1) line)) ≡ value sum (take n (drop i line))
-unfolding value
-value_on sum n line i p l = let e : n ≡ suc (n - 1) = omega arith in rw (e, drop-cons line i 0, add-one) (more (n - 1))
-  where
-    more : (k : ℕ)
-        → value (sum * 16 + digit (get_or line i 0)) (take (suc k - 1) (drop (suc i) line))
-        ≡ value (sum * 16 + digit (get_or line i 0)) (take k (drop (suc i) line))
-    more k = let e : suc k - 1 ≡ k = omega arith in rw e
+-- a digit behind a number makes a greater one
+pub read_on : (sum : ℕ) (bytes : List ℕ) (i : ℕ) → i < length bytes → digit (get_or bytes i 0) < 16
+    → read (sum * 16 + digit (get_or bytes i 0)) (drop (i + 1) bytes) ≡ read sum (drop i bytes)
+unfolding read digits value
+read_on sum bytes i l d = rw (drop-cons bytes i 0, add-one, lt-ltb (digit (get_or bytes i 0)) 16)
 
-pub value_end : (sum n : ℕ) (bytes : List ℕ) → n ≡ 0 → value sum (take n bytes) ≡ sum
-unfolding value
-value_end sum n bytes e = rw e
+-- any other byte makes none
+pub read_off : (sum : ℕ) (bytes : List ℕ) (i : ℕ) → i < length bytes → digit (get_or bytes i 0) ≡ 16 → read sum (drop i bytes) ≡ None
+unfolding read digits
+read_off sum bytes i l d = rw (drop-cons bytes i 0, d)
 
--- and none behind the last byte
-pub value_past : (sum n : ℕ) (line : List ℕ) (i : ℕ) → length line ≤ i → value sum (take n (drop i line)) ≡ sum
-unfolding value
-value_past sum n line i l = rw (drop_of_length-le line l) (simp take-nil)
+-- behind the last byte the number is whole
+pub read_end : (sum : ℕ) (bytes : List ℕ) (i : ℕ) → length bytes ≤ i → read sum (drop i bytes) ≡ Some sum
+unfolding read digits value
+read_end sum bytes i l = rw (drop_of_length-le bytes l)
 
 -- a digit behind a number of k digits makes one of k + 1
-pub more_digits : (sum d k : ℕ) → sum < 16 ^ k → d < 16 → sum * 16 + d < 16 ^ suc k
-more_digits sum d k l ld = rw (pow-suc 16 k) (omega arith)
+pub more_digits : (sum d k : ℕ) → sum < 16 ^ k → d < 16 → sum * 16 + d < 16 ^ (k + 1)
+more_digits sum d k l ld = rw (add-one, pow-suc 16 k) (omega arith)
 
 -- what has at most sixteen digits fits 64 bits
 pub sixteen_fit : (x k : ℕ) → x < 16 ^ k → k ≤ 16 → x < 2 ^ 64

@@ -1,40 +1,66 @@
 -- Lines from rows: written one behind the other, and those of the holes that the rows hold. Assumes nothing.
-use mathlib.Core.Path.{◌≡◌, refl, sym, ap, ◌∙◌}
-use mathlib.Core.List.{List, [], ◌∷◌, ◌++◌, map}
-use Prim.Native.Nat.{ℕ, suc, ◌+◌, ◌-◌, ◌*◌, ◌≤◌, ◌<◌}
-use native.Mathlib.Omega.{arith}
-use native.Mathlib.Numerals.{add-one}
-use lib.ListN.{length, take, drop, get_or, length-append, length-map}
-use lib.Seq.{drop-cons, take_all}
+use Rattle.std.proofs.Common.{◌≡◌, ◌+◌, ◌*◌, ◌≤◌, ◌<◌, ◌∷◌, ◌++◌, ◌∙◌}
+use Rattle.std.proofs.Common.{map, length-append, ℕ, suc, zero, List, [], length, take, drop, get_or, refl, sym, ap, arith, append_assoc, add-one, take-append-drop, append-nil}
+use Rattle.std.specs.List.{zip}
+use Rattle.std.proofs.lemmas.List.{drop_all, drop-drop, take_all}
+use Rattle.std.proofs.lemmas.Slice.{take-put_mid, drop-put_mid}
+use lib.ListN.{length-map}
+use lib.Seq.{drop-cons}
+use borrow.Rule.Slice.PartMut.{put_mid}
 use Rattle.rules.specs.Kinds.{number}
 use Rattle.rules.specs.Outcome.{over}
 use Rattle.rules.specs.declared.Hole.{Hole}
 use Rattle.lines.specs.Lines.{line}
-use Rattle.lines.specs.Printed.{placed, row_lines}
+use Rattle.lines.specs.Printed.{row_lines}
 use Rattle.lines.specs.Wire.{hole_lines}
-use Rattle.lines.proofs.Placed.{placed_none, placed_behind, line_length}
+use Rattle.lines.proofs.Placed.{line_length}
 
--- ---- written one behind the other
+-- ---- two rows side by side
 
--- one line of n, the first
-pub row_on : (n i at : ℕ) (addrs sizes m : List ℕ) → i < n → n ≤ length addrs → n ≤ length sizes → at ≤ length m
-    → placed (row_lines (take (n - (i + 1)) (drop (i + 1) addrs)) (take (n - (i + 1)) (drop (i + 1) sizes))) (at + 35)
-    (placed (line 0x20 (get_or addrs i 0) (get_or sizes i 0)) at m)
-    ≡ placed (row_lines (take (n - i) (drop i addrs)) (take (n - i) (drop i sizes))) at m
+pub pairs_length : (xs ys : List ℕ) → length xs ≡ length ys → length (zip xs ys) ≡ length xs
+pairs_length [] ys e = refl
+pairs_length (x ∷ xs) [] e = absurd (omega arith)
+pairs_length (x ∷ xs) (y ∷ ys) e = ap suc (pairs_length xs ys (omega arith))
+
+pub pairs_at : (k : ℕ) (xs ys : List ℕ) (p : ℕ × ℕ) → length xs ≡ length ys → k < length xs
+    → get_or (zip xs ys) k p ≡ (get_or xs k 0, get_or ys k 0)
+pairs_at k [] ys p e l = absurd (omega arith)
+pairs_at k (x ∷ xs) [] p e l = absurd (omega arith)
+pairs_at zero (x ∷ xs) (y ∷ ys) p e l = refl
+pairs_at (suc k) (x ∷ xs) (y ∷ ys) p e l = pairs_at k xs ys p (omega arith) (omega arith)
+
+-- ---- lines of two rows
+
+-- k lines are written, and the bytes behind them are as they were
+pub record Written (k : ℕ) (addrs sizes m out : List ℕ) : Type 0 where
+  pub lines : take (35 * k) out ++ row_lines (drop k addrs) (drop k sizes) ≡ row_lines addrs sizes
+  pub behind : drop (35 * k) out ≡ drop (35 * k) m
+
+pub one_more : (k : ℕ) (addrs sizes m out new : List ℕ) → Written k addrs sizes m out → k < length addrs → length addrs ≡ length sizes
+    → 35 * length addrs ≤ length out → new ≡ line 0x20 (get_or addrs k 0) (get_or sizes k 0)
+    → Written (k + 1) addrs sizes m (put_mid (35 * k) 35 out new)
 unfolding row_lines
-row_on n i at addrs sizes m l a s f =
-    let e : n - i ≡ suc (n - (i + 1)) = omega arith in
-    let la : i < length addrs = omega arith in
-    let ls : i < length sizes = omega arith in
-    let k : at + 35 ≡ at + length (line 0x20 (get_or addrs i 0) (get_or sizes i 0)) =
-    ap (λ j. at + j) (sym (line_length 0x20 (get_or addrs i 0) (get_or sizes i 0))) in
-    rw (e, drop-cons addrs i 0 la, drop-cons sizes i 0 ls, add-one)
-    (placed_behind (line 0x20 (get_or addrs i 0) (get_or sizes i 0)) _ at (at + 35) m f k)
+one_more k addrs sizes m out new w l e f n =
+    let len : length new ≡ 35 = rw n (line_length _ _ _) in
+    let d : 35 * (k + 1) ≡ 35 * k + 35 = omega arith in
+    let rows : row_lines (drop k addrs) (drop k sizes) ≡ new ++ row_lines (drop (k + 1) addrs) (drop (k + 1) sizes) =
+    rw (drop-cons addrs k 0 (omega arith), drop-cons sizes k 0 (omega arith), add-one, n) refl in
+    let same : drop (35 * (k + 1)) out ≡ drop (35 * (k + 1)) m =
+    rw (d, ← drop-drop 35 (35 * k) out, ← drop-drop 35 (35 * k) m) (ap (drop 35) w.behind) in
+    record {
+      lines = rw (take-put_mid (35 * k) 35 out new (35 * (k + 1)) (omega arith) (omega arith))
+          (append_assoc (take (35 * k) out) new _ ∙ ap (λ r. take (35 * k) out ++ r) (sym rows) ∙ w.lines);
+      behind = drop-put_mid (35 * k) 35 out new (35 * (k + 1)) (omega arith) (omega arith) len ∙ same;
+    }
 
--- and none
-pub row_off : (n at : ℕ) (addrs sizes m : List ℕ) → n ≡ 0 → placed (row_lines (take n addrs) (take n sizes)) at m ≡ m
+pub all_written : (addrs sizes m out : List ℕ) → Written (length addrs) addrs sizes m out
+    → out ≡ row_lines addrs sizes ++ drop (35 * length addrs) m
 unfolding row_lines
-row_off n at addrs sizes m e = rw e (placed_none m at)
+all_written addrs sizes m out w =
+    let rest : row_lines (drop (length addrs) addrs) (drop (length addrs) sizes) ≡ [] =
+    rw (drop_all (length addrs) addrs (omega arith)) refl in
+    let front : take (35 * length addrs) out ≡ row_lines addrs sizes = sym (append-nil _) ∙ rw rest at w.lines in
+    sym (take-append-drop (35 * length addrs) out) ∙ rw (front, w.behind) refl
 
 -- ---- of the holes
 

@@ -20,7 +20,7 @@ use Rattle.rules.specs.Refusals.{Test, change_tests, report_tests, tests, unless
 use Rattle.rules.specs.Answers.{refusal_numbers, answer_numbers}
 use Rattle.rules.specs.Outcome.{decided, outcome}
 use Rattle.rules.specs.Runs.{Fits}
-use Rattle.rules.proofs.Cases.{by_test, or_left}
+use Rattle.std.proofs.lemmas.Bool.{cond_both, or_parts}
 use Rattle.rules.proofs.Powers.{power_pos}
 use Rattle.rules.proofs.Layouts.{layout_passed}
 use Rattle.rules.proofs.Used.{find_splits, suits_fits}
@@ -43,7 +43,7 @@ by_given : (ts : List Test) (o : Outcome) → Given ts → (Passes ts → Outcom
 unfolding unless
 by_given [] o g f = f tt
 by_given (t ∷ ts) o (g, gs) f =
-    by_test OutcomeFits (any t.«exactly_if») (refused t.gives) (unless ts o) (λ e. g) (λ e. by_given ts o gs (λ p. f (e, p)))
+    cond_both (any t.«exactly_if») (refused t.gives) (unless ts o) OutcomeFits (λ e. g) (λ e. by_given ts o gs (λ p. f (e, p)))
 
 tests_given : (c : Call) (len : ℕ) (h : Heap) (ks : List Hole) → Given (tests c len h ks)
 unfolding tests refusal_numbers
@@ -85,7 +85,7 @@ holes_fit (k ∷ ks) l =
 grant_low : (align : ℕ) (k : Hole) → grant_of align k ≤ k.addr.0 + k.size
 unfolding grant_of
 grant_low align k =
-    by_test (λ n. n ≤ k.addr.0 + k.size) (not_after (plus (candidate align k.addr) min_size) (end k)) _ _
+    cond_both (not_after (plus (candidate align k.addr) min_size) (end k)) _ _ (λ n. n ≤ k.addr.0 + k.size)
     (λ e. omega arith) (λ e. omega arith)
 
 largest_low : (align : ℕ) (ks : List Hole) → ((k : Hole) → Memᴰ k ks → k.addr.0 + k.size ≤ 2 ^ 63)
@@ -123,8 +123,8 @@ module _ (len : ℕ) (h : Heap) (ks : List Hole) (st : Stands len h ks) where
   change_fits (Change.extend by) f p =
       let top = (stands_low len h ks st).top in
       let n = (ruled_words h ks st.ruled st.sound).0 in
-      let l = ltb-false (h.base.0 + h.len) (h.top.0 + h.pending + by) (or_left _ _ p.0) in
-      by_test OutcomeFits (ltb (h.pending + by) min_size) _ _
+      let l = ltb-false (h.base.0 + h.len) (h.top.0 + h.pending + by) (or_parts _ _ p.0).0 in
+      cond_both (ltb (h.pending + by) min_size) _ _ OutcomeFits
       (λ e. omega (arith, ltb-true (h.pending + by) min_size e))
       (λ e. omega (arith, n.low))
 

@@ -3,9 +3,10 @@
 -- digits in words, and a byte with its numbers
 pub mod Worth
 pub mod Spelled
--- frames: digits as code reads them, and forms by their call's byte
+-- frames: digits as code reads them, forms by their call's byte, and the numbers of a line
 pub mod Digits
 pub mod Frames
+pub mod Taken
 -- frames read and answers printed are what the words say
 pub mod FrameWords
 pub mod LineWords

@@ -1,4 +1,5 @@
 -- Answers: what is printed is what the words say; and every call has a frame. Assumes nothing.
+use Rattle.std.proofs.Common.{Ok}
 use mathlib.Core.Path.{◌≡◌, refl, sym, ◌∙◌}
 use mathlib.Core.List.{List, [], ◌∷◌, ◌++◌, append_assoc}
 use Prim.Native.Nat.{ℕ, ◌^◌, ◌<◌}
@@ -37,7 +38,6 @@ each_call (is.Extend by) l = (_, says 4 (by ∷ []) (omega arith) (l, tt))
 each_call is.List l = (_, says 5 [] (omega arith) tt)
 each_call (is.Room align) l = (_, says 6 (align ∷ []) (omega arith) (l, tt))
 each_call (is.Resize a n align m) (l, k, j, i) = (_, says 7 (a ∷ n ∷ align ∷ m ∷ []) (omega arith) (l, (k, (j, (i, tt)))))
-each_call is.Bad l = absurd l
 
 -- ---- a line
 
@@ -83,8 +83,8 @@ numbers_say n (c, l, k) = line_says n.no n.one n.two c l k
 spoken_says : (o : Outcome) → OutcomeFits o → Tells (spoken o) o
 unfolding spoken
 spoken_says (refused r) l = numbers_say (refusal_numbers r) l
-spoken_says (told a ks) (l, k) = (_, hole_lines ks, refl, numbers_say (answer_numbers a) l, holes_say ks k)
-spoken_says (done a h ks) l = numbers_say (answer_numbers a) l
+spoken_says (told a ks) (l, k) = (_, hole_lines ks, refl, numbers_say (answer_numbers (Ok a)) l, holes_say ks k)
+spoken_says (done a h ks) l = numbers_say (answer_numbers (Ok a)) l
 
 pub tells_one : (xs ys : List ℕ) (o : Outcome) → Tells xs o → Tells ys o → xs ≡ ys
 tells_one xs ys (refused r) s t = lines_one _ _ _ xs ys s t

@@ -1,17 +1,19 @@
 -- The list printed: its line, and the lines of its holes from the rows that it filled. Assumes nothing.
-use mathlib.Core.Path.{◌≡◌, sym, ap, ◌∙◌}
-use mathlib.Core.List.{List, map}
+use mathlib.Core.Path.{◌≡◌, ap, ◌∙◌}
+use mathlib.Core.List.{List, ◌++◌, map, append_assoc}
 use Prim.Native.Nat.{ℕ, ◌+◌, ◌*◌, min, ◌≤◌}
 use native.Mathlib.Omega.{arith}
-use lib.ListN.{length, take}
+use lib.ListN.{length, take, length-append}
+use lib.Seq.{take_at}
+use borrow.Rule.Slice.PartMut.{put_mid}
 use Rattle.rules.specs.Kinds.{number}
 use Rattle.rules.specs.Calls.{list}
 use Rattle.rules.specs.Answers.{answer_numbers}
-use Rattle.rules.specs.Outcome.{outcome, after, rows, over, in_rows, rows_after}
+use Rattle.rules.specs.Outcome.{outcome, after, leaves, rows, over, in_rows, rows_after}
 use Rattle.rules.specs.declared.Heap.{Heap}
 use Rattle.lines.specs.Wire.{numbers_line, hole_lines, spoken, arena_bytes, most_holes}
-use Rattle.lines.specs.Printed.{placed, row_lines}
-use Rattle.lines.proofs.Placed.{take_placed}
+use Rattle.lines.specs.Printed.{row_lines}
+use Rattle.lines.proofs.Placed.{line_length, line_front}
 use Rattle.lines.proofs.FromRows.{lines_length, rows_lines, row_front}
 use Rattle.rules.proofs.Reports.{over_length}
 use Rattle.lines.proofs.Spoken.{shown, spoken_is, listing}
@@ -61,10 +63,16 @@ module _ (h : Heap) (m : List ℕ) (whole : length m ≡ arena_bytes) {n : ℕ} 
         rw (listed_count, sizes_are) (row_front (λ k. k.size) most_holes ks sizes₀ few (omega arith)) in
         rw (a, s) (rows_lines ks)
 
-    pub list_printed : (out : List ℕ) → 35 ≤ length out → take 35 out ≡ numbers_line (answer_numbers (after list h m).answer)
-        → take (35 * (n + 1)) (placed (row_lines (take n addrs) (take n sizes)) 35 out) ≡ spoken (outcome list h m)
+    -- the first line, and the others behind it
+    pub list_printed : (k : ℕ) (first back holes m' : List ℕ) → first ≡ numbers_line (answer_numbers (after list h m).answer)
+        → holes ≡ row_lines (take n addrs) (take n sizes) ++ m'
+        → take (35 * (n + 1)) (put_mid 35 k (first ++ back) holes) ≡ spoken (outcome list h m)
     unfolding after
-    list_printed out l first =
+    list_printed k first back holes m' e i =
         let o = outcome list h m in
-        let e : 35 * (n + 1) ≡ 35 + length (hole_lines (shown o)) = omega (arith, lines_length (shown o), listed_count) in
-        rw (lines_are, e) (take_placed (hole_lines (shown o)) 35 out l ∙ rw first (sym (spoken_is h m o)))
+        let ls = hole_lines (shown o) in
+        let a = answer_numbers (leaves h m o).answer in
+        let long : length (numbers_line a ++ ls) ≡ 35 * (n + 1) =
+        simp (length-append, line_length) (omega (arith, lines_length (shown o), listed_count)) in
+        rw (e, i, lines_are, line_front a.no a.one a.two back, spoken_is h m o)
+        (simp append_assoc (rw (← append_assoc (numbers_line a) ls) (take_at (numbers_line a ++ ls) _ (35 * (n + 1)) long)))

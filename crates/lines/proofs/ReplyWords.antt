@@ -1,6 +1,7 @@
 -- What a line comes to is what the words say. Assumes nothing.
 use mathlib.Core.Path.{◌≡◌, refl, sym, ap, ◌∙◌}
 use mathlib.Core.List.{List}
+use Rattle.std.specs.Prelude.{Option, Some, None}
 use Prim.Native.Nat.{ℕ, ◌+◌, ◌*◌, ◌≤◌}
 use native.Mathlib.Omega.{arith}
 use lib.ListN.{length, take, length-append}
@@ -25,10 +26,7 @@ use Rattle.lines.proofs.FromRows.{lines_length}
 use Rattle.lines.proofs.Spoken.{shown, spoken_is, lists, lists_list, call_shown, listing}
 
 same : (r s : Reply) → r.printed ≡ s.printed → r.heap ≡ s.heap → r.arena ≡ s.arena → r ≡ s
-same r s p h m =
-    ap (λ (x : List ℕ). record { printed = x; heap = r.heap; arena = r.arena }) p
-    ∙ ap (λ (x : Heap). record { printed = s.printed; heap = x; arena = r.arena }) h
-    ∙ ap (λ (x : List ℕ). record { printed = s.printed; heap = s.heap; arena = x }) m
+same r s p h m = λ i. record { printed = p i; heap = h i; arena = m i }
 
 module _ (h : Heap) (m : List ℕ) (r : Reply) where
   -- ---- of a call
@@ -46,12 +44,12 @@ module _ (h : Heap) (m : List ℕ) (r : Reply) where
 
   -- ---- of a line that is none
 
-  nothing_is : DoesNothing h m r → r ≡ reply is.Bad h m
+  nothing_is : DoesNothing h m r → r ≡ reply None h m
   unfolding reply
   nothing_is d =
       same r _ ((prints_exactly r.printed 0xff 0 0 (omega arith) (omega arith) (omega arith)).0 d.printed) d.heap d.arena
 
-  is_nothing : r ≡ reply is.Bad h m → DoesNothing h m r
+  is_nothing : r ≡ reply None h m → DoesNothing h m r
   unfolding reply
   is_nothing e =
       record {
@@ -66,7 +64,7 @@ module _ (h : Heap) (m : List ℕ) (r : Reply) where
   fit c f = outcomes_fit c h m f
 
   module _ (bytes : List ℕ) where
-    comes_is : ComesTo bytes h m r → (f : Frame) → IsFrame bytes f → r ≡ reply f h m
+    comes_is : ComesTo bytes h m r → (f : Frame) → IsFrame bytes f → r ≡ reply (Some f) h m
     unfolding reply
     comes_is d (is.Open base named) s =
         does_is (opening (addr base) named) (fit _ (frame_digits_lem bytes (is.Open base named) s).1) (d.opens base named s)
@@ -79,12 +77,11 @@ module _ (h : Heap) (m : List ℕ) (r : Reply) where
     comes_is d (is.Room align) s = does_is (room align) (fit _ (frame_digits_lem bytes (is.Room align) s).1) (d.reports align s)
     comes_is d (is.Resize a n align k) s =
         does_is (resize (addr a) n align k) (fit _ (frame_digits_lem bytes (is.Resize a n align k) s).1) (d.resizes a n align k s)
-    comes_is d is.Bad s = absurd s
 
     is_comes : r ≡ replied bytes h m → ComesTo bytes h m r
     unfolding reply
     is_comes e =
-        let as_read : (f : Frame) → IsFrame bytes f → r ≡ reply f h m = λ f s. e ∙ ap (λ g. reply g h m) (reads bytes f s) in
+        let as_read : (f : Frame) → IsFrame bytes f → r ≡ reply (Some f) h m = λ f s. e ∙ ap (λ g. reply g h m) (reads bytes f s) in
         record {
           opens = λ base named s.
               is_does (opening (addr base) named) (fit _ (frame_digits_lem bytes (is.Open base named) s).1) (as_read (is.Open base named) s);
@@ -102,7 +99,7 @@ module _ (h : Heap) (m : List ℕ) (r : Reply) where
 
     comes_to_lem : ComesTo bytes h m r → r ≡ replied bytes h m
     comes_to_lem d =
-        by_read bytes (comes_is d (frame_of bytes))
+        by_read bytes (λ f e s. comes_is d f s ∙ ap (λ g. reply g h m) (sym e))
         (λ b. nothing_is (d.others ((bad_exactly bytes).1 b)) ∙ ap (λ g. reply g h m) (sym b))
 
 pub replies_exactly : RepliesExactly
@@ -133,16 +130,16 @@ call_enough c h m w =
     (λ e. rw (lists_list c e) (omega (arith, spoken_length list h m, (listing h m).few)))
     (λ e. omega (arith, spoken_length c h m, ap length (call_shown c h m e)))
 
-enough : (f : Frame) (h : Heap) (m : List ℕ) → length m ≡ 65536 → length (reply f h m).printed ≤ 71715
+enough : (f : Option Frame) (h : Heap) (m : List ℕ) → length m ≡ 65536 → length (reply f h m).printed ≤ 71715
 unfolding reply
-enough (is.Open base named) h m w = call_enough (opening (addr base) named) h m w
-enough (is.Allocate n align) h m w = call_enough (allocate n align) h m w
-enough (is.Free a n align) h m w = call_enough (free (addr a) n align) h m w
-enough (is.Extend by) h m w = call_enough (extend by) h m w
-enough is.List h m w = call_enough list h m w
-enough (is.Room align) h m w = call_enough (room align) h m w
-enough (is.Resize a n align k) h m w = call_enough (resize (addr a) n align k) h m w
-enough is.Bad h m w = omega (arith, line_length 0xff 0 0)
+enough (Some (is.Open base named)) h m w = call_enough (opening (addr base) named) h m w
+enough (Some (is.Allocate n align)) h m w = call_enough (allocate n align) h m w
+enough (Some (is.Free a n align)) h m w = call_enough (free (addr a) n align) h m w
+enough (Some (is.Extend by)) h m w = call_enough (extend by) h m w
+enough (Some is.List) h m w = call_enough list h m w
+enough (Some (is.Room align)) h m w = call_enough (room align) h m w
+enough (Some (is.Resize a n align k)) h m w = call_enough (resize (addr a) n align k) h m w
+enough None h m w = omega (arith, line_length 0xff 0 0)
 
 pub sizes : Sizes
 sizes = record { frame = refl; arena = refl; holes = refl; enough = λ bytes. enough (frame_of bytes) }

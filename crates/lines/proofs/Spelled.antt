@@ -1,39 +1,30 @@
 -- A line in words, taken apart as the definitions take it apart: its byte and its numbers by their index. Assumes nothing.
-use mathlib.Core.Path.{◌≡◌, refl, sym, ap, ◌∙◌}
-use mathlib.Core.Bool.{true}
+use mathlib.Core.Path.{◌≡◌, sym, ap, ◌∙◌}
+use mathlib.Core.Bool.{true, ◌&&◌}
 use mathlib.Core.List.{List, [], ◌∷◌, ◌++◌}
 use Prim.Native.Nat.{ℕ, zero, suc, ◌+◌, ◌*◌, ◌^◌, ◌≤◌, ◌<◌}
 use native.Mathlib.Omega.{arith}
-use lib.Dec.{ltb}
 use lib.ListN.{length, take, drop, get_or, length-append, length-drop, take-append-drop, drop_of_length-le}
 use lib.Seq.{length-take-le, take_at, drop_at, drop-drop}
-use Rattle.rules.proofs.Cases.{and_left, and_right, both}
-use Rattle.lines.specs.Frames.{digit, digits, value, number_at, number_of}
+use Rattle.std.proofs.lemmas.Bool.{and_from, and_parts}
+use Rattle.lines.specs.Frames.{digits, value, number_at, number_of}
 use Rattle.lines.specs.Format.{InRow, Spells}
+use Rattle.lines.proofs.Digits.{digits_append}
 use Rattle.lines.proofs.Worth.{worth_digits, worth_value, digits_worth, worth_low, worth_one}
 
 -- ---- digits of a part
 
 digits_join : (xs ys : List ℕ) → digits xs ≡ true → digits ys ≡ true → digits (xs ++ ys) ≡ true
-unfolding digits
-digits_join [] ys d e = e
-digits_join (x ∷ xs) ys d e =
-    both {a = ltb (digit x) 16} {b = digits (xs ++ ys)} (and_left (ltb (digit x) 16) (digits xs) d)
-    (digits_join xs ys (and_right (ltb (digit x) 16) (digits xs) d) e)
+digits_join xs ys d e = digits_append xs ys ∙ and_from _ _ d e
+
+digits_cut : (n : ℕ) (xs : List ℕ) → digits xs ≡ true → (digits (take n xs) && digits (drop n xs)) ≡ true
+digits_cut n xs d = sym (digits_append (take n xs) (drop n xs)) ∙ ap digits (take-append-drop n xs) ∙ d
 
 digits_take : (n : ℕ) (xs : List ℕ) → digits xs ≡ true → digits (take n xs) ≡ true
-unfolding digits
-digits_take zero xs d = refl
-digits_take (suc n) [] d = refl
-digits_take (suc n) (x ∷ xs) d =
-    both {a = ltb (digit x) 16} {b = digits (take n xs)} (and_left (ltb (digit x) 16) (digits xs) d)
-    (digits_take n xs (and_right (ltb (digit x) 16) (digits xs) d))
+digits_take n xs d = (and_parts (digits (take n xs)) (digits (drop n xs)) (digits_cut n xs d)).0
 
 digits_drop : (n : ℕ) (xs : List ℕ) → digits xs ≡ true → digits (drop n xs) ≡ true
-unfolding digits
-digits_drop zero xs d = d
-digits_drop (suc n) [] d = d
-digits_drop (suc n) (x ∷ xs) d = digits_drop n xs (and_right (ltb (digit x) 16) (digits xs) d)
+digits_drop n xs d = (and_parts (digits (take n xs)) (digits (drop n xs)) (digits_cut n xs d)).1
 
 -- ---- numbers in a row
 

@@ -6,6 +6,7 @@ use Prim.Native.Nat.{ℕ, ◌+◌, ◌*◌, ◌/◌, ◌≤◌}
 use native.Mathlib.Omega.{arith}
 use lib.ListN.{length}
 use lib.Dec.{eqb}
+use Rattle.std.proofs.Common.{Ok}
 use lib.Seq.{take-nil}
 use borrow.Author.Tests.{eqb-true, not-false}
 use Rattle.rules.specs.declared.Hole.{Hole}
@@ -20,7 +21,8 @@ use Rattle.rules.specs.Calls.{Call, opening, change, report, list, Outcome, refu
 use Rattle.rules.specs.Refusals.{tests}
 use Rattle.rules.specs.Answers.{refusal_numbers, answer_numbers}
 use Rattle.rules.specs.Outcome.{outcome, leaves, after, Rows, over, in_rows, leaves_rows}
-use Rattle.rules.proofs.Cases.{apart, or_left}
+use Rattle.std.proofs.lemmas.Bool.{or_parts}
+use Rattle.rules.proofs.Cases.{apart}
 use Rattle.rules.proofs.Walk.{sound_fair, sound_count}
 use Rattle.rules.proofs.Passes.{by_change, by_decided}
 use Rattle.lines.specs.Wire.{numbers_line, hole_lines, spoken}
@@ -37,7 +39,7 @@ pub spoken_is : (h : Heap) (m : List ℕ) (o : Outcome)
 unfolding spoken leaves answer_numbers hole_lines shown
 spoken_is h m (refused r) = sym (append-nil (numbers_line (refusal_numbers r)))
 spoken_is h m (told a ks) = refl
-spoken_is h m (done a h' ks) = sym (append-nil (numbers_line (answer_numbers a)))
+spoken_is h m (done a h' ks) = sym (append-nil (numbers_line (answer_numbers (Ok a))))
 
 -- ---- the calls that print one line
 
@@ -58,7 +60,7 @@ lists_list (report (Report.room align)) e = apart e refl
 accepted_shown : (c : Call) (len : ℕ) (h : Heap) (ks : List Hole) → lists c ≡ false → shown (accepted c len h ks) ≡ []
 unfolding accepted shown
 accepted_shown (opening base named) len h ks e = refl
-accepted_shown (change c) len h ks e = by_change (λ o. shown o ≡ []) h ks (λ r q. refl) (λ a h' js q p. refl) c len
+accepted_shown (change c) len h ks e = by_change (λ o. shown o ≡ []) h ks (λ r q. refl) (λ a h' js q. refl) c len
 accepted_shown (report Report.list) len h ks e = apart refl e
 accepted_shown (report (Report.room align)) len h ks e = refl
 
@@ -124,5 +126,5 @@ listing h m =
     by_decided (Listing h m) list (length m) h ks (refused_listing h m)
     (λ (unopened, (lent, (numbers, (its, behind)))).
     told_listing h m _ ks
-    (sound_few h ks (eqb-true (length m) h.len (not-false (eqb (length m) h.len) (or_left _ _ lent)))
-    (not-false (sound_numbers h) (or_left _ _ numbers)) (not-false (sound_holes h ks) (or_left _ _ its))))
+    (sound_few h ks (eqb-true (length m) h.len (not-false (eqb (length m) h.len) (or_parts _ _ lent).0))
+    (not-false (sound_numbers h) (or_parts _ _ numbers).0) (not-false (sound_holes h ks) (or_parts _ _ its).0)))

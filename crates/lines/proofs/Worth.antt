@@ -9,7 +9,8 @@ use native.Mathlib.Nat.{pow-suc, mul-le-mul_right, mod-lt, div-add-mod', div-lt_
 use lib.Dec.{leb, ltb}
 use lib.ListN.{length, length-append}
 use borrow.Author.Tests.{leb-true, ltb-true, lt-ltb, le-ltb, le-leb}
-use Rattle.rules.proofs.Cases.{apart, by_le, by_test, and_left, and_right, both}
+use Rattle.std.proofs.lemmas.Bool.{and_from, and_parts, cond_both}
+use Rattle.rules.proofs.Cases.{apart, by_le}
 use Rattle.lines.specs.Frames.{digit, digits, value}
 use Rattle.lines.specs.Lines.{glyph, hex}
 use Rattle.lines.specs.Format.{Digit, Worth}
@@ -20,12 +21,12 @@ pub digit_low : (b v : ℕ) → Digit b v → v < 16
 digit_low b v d = ⊎_elim (λ (l, m, e). omega arith) (λ (l, m, e). omega arith) d
 
 -- a choice between two ends, and outside of them
-by_ends {ℓ} : (P : ℕ → Type ℓ) (lo b hi x y : ℕ) → (lo ≤ b → b ≤ hi → P x) → ((lo ≤ b → b ≤ hi → ⊥) → P y)
+by_ends : (P : ℕ → Type 0) (lo b hi x y : ℕ) → (lo ≤ b → b ≤ hi → P x) → ((lo ≤ b → b ≤ hi → ⊥) → P y)
     → P (cond (leb lo b && leb b hi) x y)
 by_ends P lo b hi x y f g =
-    by_test P (leb lo b && leb b hi) x y
-    (λ t. f (leb-true lo b (and_left (leb lo b) (leb b hi) t)) (leb-true b hi (and_right (leb lo b) (leb b hi) t)))
-    (λ t. g (λ l m. apart (both (le-leb lo b l) (le-leb b hi m)) t))
+    cond_both (leb lo b && leb b hi) x y P
+    (λ t. f (leb-true lo b (and_parts (leb lo b) (leb b hi) t).0) (leb-true b hi (and_parts (leb lo b) (leb b hi) t).1))
+    (λ t. g (λ l m. apart (and_from _ _ (le-leb lo b l) (le-leb b hi m)) t))
 
 pub digit_is : (b v : ℕ) → Digit b v → digit b ≡ v
 unfolding digit
@@ -73,7 +74,7 @@ pub worth_digits : (bs : List ℕ) (n : ℕ) → Worth bs n → digits bs ≡ tr
 unfolding digits
 worth_digits [] n w = refl
 worth_digits (b ∷ bs) n (v, rest, d, w, e) =
-    both {a = ltb (digit b) 16} {b = digits bs} (rw (digit_is b v d) (lt-ltb v 16 (digit_low b v d))) (worth_digits bs rest w)
+    and_from (ltb (digit b) 16) (digits bs) (rw (digit_is b v d) (lt-ltb v 16 (digit_low b v d))) (worth_digits bs rest w)
 
 pub worth_value : (bs : List ℕ) (n : ℕ) → Worth bs n → value 0 bs ≡ n
 unfolding value
@@ -89,8 +90,8 @@ digits_worth [] e = refl
 digits_worth (b ∷ bs) e = (
   digit b,
   value 0 bs,
-  digit_says b (ltb-true (digit b) 16 (and_left (ltb (digit b) 16) (digits bs) e)),
-  digits_worth bs (and_right (ltb (digit b) 16) (digits bs) e),
+  digit_says b (ltb-true (digit b) 16 (and_parts (ltb (digit b) 16) (digits bs) e).0),
+  digits_worth bs (and_parts (ltb (digit b) 16) (digits bs) e).1,
   value_behind (0 * 16 + digit b) bs ∙ omega arith,
 )
 

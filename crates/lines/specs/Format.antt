@@ -1,5 +1,5 @@
 -- Lines on the wire in words: which bytes say what, apart from the definitions that read and print them. Definitions only.
-use Rattle.std.specs.Prelude.{◌≡◌, List, [], ◌∷◌, ◌++◌, ◌⊎◌, ℕ, ◌+◌, ◌-◌, ◌*◌, ◌^◌, ◌≤◌, ◌<◌, length}
+use Rattle.std.specs.Prelude.{◌≡◌, Ok, List, [], ◌∷◌, ◌++◌, ◌⊎◌, ℕ, ◌+◌, ◌-◌, ◌*◌, ◌^◌, ◌≤◌, ◌<◌, length}
 use Rattle.rules.specs.Kinds.{addr}
 use Rattle.rules.specs.Calls.{Call, opening, allocate, free, resize, extend, list, room, Outcome, refused, told, done}
 use Rattle.rules.specs.Answers.{Numbers, refusal_numbers, answer_numbers}
@@ -51,7 +51,6 @@ IsFrame bytes (is.Extend by) = Spells bytes 0x04 (by ∷ [])
 IsFrame bytes is.List = Spells bytes 0x05 []
 IsFrame bytes (is.Room align) = Spells bytes 0x06 (align ∷ [])
 IsFrame bytes (is.Resize a s align n) = Spells bytes 0x07 (a ∷ s ∷ align ∷ n ∷ [])
-IsFrame bytes is.Bad = ⊥
 
 -- the line is the frame of no call; so is an empty one
 abbrev pub NoFrame : List ℕ → Type 0
@@ -66,7 +65,6 @@ digits_of (is.Extend by) = 18
 digits_of is.List = 2
 digits_of (is.Room align) = 18
 digits_of (is.Resize a s align n) = 66
-digits_of is.Bad = 0
 
 -- ---- answers: a line says a byte and two numbers
 
@@ -87,8 +85,8 @@ TellsHoles bytes (k ∷ ks) =
 abbrev pub Tells : List ℕ → Outcome → Type 0
 Tells bytes (refused r) = TellsNumbers bytes (refusal_numbers r)
 Tells bytes (told a ks) =
-    (first : List ℕ) × (rest : List ℕ) × (bytes ≡ first ++ rest) × TellsNumbers first (answer_numbers a) × TellsHoles rest ks
-Tells bytes (done a h ks) = TellsNumbers bytes (answer_numbers a)
+    (first : List ℕ) × (rest : List ℕ) × (bytes ≡ first ++ rest) × TellsNumbers first (answer_numbers (Ok a)) × TellsHoles rest ks
+Tells bytes (done a h ks) = TellsNumbers bytes (answer_numbers (Ok a))
 
 -- ---- what a line comes to
 
@@ -126,8 +124,8 @@ HolesFit (k ∷ ks) = (k.addr.0 < 2 ^ 64) × (k.size < 2 ^ 64) × HolesFit ks
 
 abbrev pub OutcomeFits : Outcome → Type 0
 OutcomeFits (refused r) = Fit (refusal_numbers r)
-OutcomeFits (told a ks) = Fit (answer_numbers a) × HolesFit ks
-OutcomeFits (done a h ks) = Fit (answer_numbers a)
+OutcomeFits (told a ks) = Fit (answer_numbers (Ok a)) × HolesFit ks
+OutcomeFits (done a h ks) = Fit (answer_numbers (Ok a))
 
 abbrev pub FrameFits : Frame → Type 0
 FrameFits (is.Open base named) = (base < 2 ^ 64) × (named < 2 ^ 64)
@@ -137,4 +135,3 @@ FrameFits (is.Extend by) = by < 2 ^ 64
 FrameFits is.List = Unit {0}
 FrameFits (is.Room align) = align < 2 ^ 64
 FrameFits (is.Resize a s align n) = (a < 2 ^ 64) × (s < 2 ^ 64) × (align < 2 ^ 64) × (n < 2 ^ 64)
-FrameFits is.Bad = ⊥

@@ -1,5 +1,5 @@
 -- Lines on the wire: frames read. Definitions only.
-use Rattle.std.specs.Prelude.{Bool, true, ◌&&◌, cond, List, [], ◌∷◌, ℕ, ◌+◌, ◌-◌, ◌*◌, eqb, leb, ltb, length, take, drop}
+use Rattle.std.specs.Prelude.{Bool, true, ◌&&◌, cond, Option, Some, None, List, [], ◌∷◌, ℕ, ◌+◌, ◌-◌, ◌*◌, eqb, leb, ltb, length, take, drop}
 use Rattle.lines.specs.declared.reading.Frame.{Frame}
 use Rattle.lines.specs.declared.reading.Frame.TheVariants as is
 
@@ -60,16 +60,20 @@ forms =
 abbrev pub most_numbers : ℕ
 most_numbers = 4
 
--- the form of a byte; one that is no call has no number and makes no frame
-unfoldable pub form_of : List Form → ℕ → Form
-form_of [] c = form c 0 (λ n. is.Bad)
-form_of (f ∷ fs) c = cond (eqb c f.call) f (form_of fs c)
+-- the form of a byte; one that is no call has none
+unfoldable pub form_of : List Form → ℕ → Option Form
+form_of [] c = None
+form_of (f ∷ fs) c = cond (eqb c f.call) (Some f) (form_of fs c)
 
--- a line of digits, by its call's byte: the form says how long it is
-unfoldable pub framed : List ℕ → ℕ → Frame
-framed line c =
-    cond (eqb (length line) (frame_digits (form_of forms c).count)) ((form_of forms c).frame (number_of line)) is.Bad
+-- a line of digits, at a form, which says how long the line is
+unfoldable pub formed : List ℕ → Option Form → Option Frame
+formed line None = None
+formed line (Some f) = cond (eqb (length line) (frame_digits f.count)) (Some (f.frame (number_of line))) None
+
+-- a line of digits, by its call's byte
+abbrev pub framed : List ℕ → ℕ → Option Frame
+framed line c = formed line (form_of forms c)
 
 -- any other line is none
-unfoldable pub frame_of : List ℕ → Frame
-frame_of line = cond (digits line) (framed line (number_at line 0 2)) is.Bad
+unfoldable pub frame_of : List ℕ → Option Frame
+frame_of line = cond (digits line) (framed line (number_at line 0 2)) None

@@ -1,10 +1,6 @@
 -- What the contracts of the code that prints cite. Definitions only.
-use Rattle.std.specs.Prelude.{List, [], ◌∷◌, ◌++◌, ℕ, ◌+◌, length, take, drop}
+use Rattle.std.specs.Prelude.{List, [], ◌∷◌, ◌++◌, ℕ}
 use Rattle.lines.specs.Lines.{line}
-
--- bytes over those from an index on; the others stay
-abbrev pub placed : List ℕ → ℕ → List ℕ → List ℕ
-placed new at m = take at m ++ (new ++ drop (at + length new) m)
 
 -- per hole of two rows, addresses and sizes, a line 20, address, size
 unfoldable pub row_lines : List ℕ → List ℕ → List ℕ

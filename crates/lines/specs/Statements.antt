@@ -1,6 +1,6 @@
 -- The wire's format as statements: the definitions that read and print say what the words in Format say, both ways. The proofs are held to
 -- these types in proofs/Format.antt, whose one value of `Format` the gate checks.
-use Rattle.std.specs.Prelude.{◌≡◌, List, ℕ, ◌^◌, ◌≤◌, ◌<◌, length, take}
+use Rattle.std.specs.Prelude.{◌≡◌, Some, None, List, ℕ, ◌^◌, ◌≤◌, ◌<◌, length, take}
 use Rattle.rules.specs.Calls.{Call, Outcome}
 use Rattle.rules.specs.Runs.{Fits}
 use Rattle.rules.specs.Outcome.{outcome}
@@ -8,7 +8,6 @@ use Rattle.rules.specs.declared.Hole.{Hole}
 use Rattle.rules.specs.declared.Heap.{Heap}
 use Rattle.lines.specs.declared.Replied.{Replied}
 use Rattle.lines.specs.declared.reading.Frame.{Frame}
-use Rattle.lines.specs.declared.reading.Frame.TheVariants as is
 use Rattle.lines.specs.Frames.{frame_digits, most_numbers, frame_of}
 use Rattle.lines.specs.Lines.{line}
 use Rattle.lines.specs.Wire.{hole_lines, spoken, Reply, replied, arena_bytes, most_holes, Answers}
@@ -19,11 +18,11 @@ use Rattle.lines.specs.Format.{IsFrame, NoFrame, digits_of, IsLine, TellsHoles, 
 -- a line is read as a call exactly if it is that call's frame
 abbrev pub ReadsExactly : Type 0
 ReadsExactly =
-    (bytes : List ℕ) (f : Frame) → (f ≡ is.Bad → ⊥) → (IsFrame bytes f → frame_of bytes ≡ f) × (frame_of bytes ≡ f → IsFrame bytes f)
+    (bytes : List ℕ) (f : Frame) → (IsFrame bytes f → frame_of bytes ≡ Some f) × (frame_of bytes ≡ Some f → IsFrame bytes f)
 
 -- and as none exactly if it is no call's
 abbrev pub BadExactly : Type 0
-BadExactly = (bytes : List ℕ) → (NoFrame bytes → frame_of bytes ≡ is.Bad) × (frame_of bytes ≡ is.Bad → NoFrame bytes)
+BadExactly = (bytes : List ℕ) → (NoFrame bytes → frame_of bytes ≡ None) × (frame_of bytes ≡ None → NoFrame bytes)
 
 -- a line is the frame of one call at most
 abbrev pub OneCall : Type 0

@@ -1,5 +1,5 @@
 -- Lines on the wire: what is printed of a call, and what a line comes to. Definitions only.
-use Rattle.std.specs.Prelude.{◌≡◌, List, [], ◌∷◌, ◌++◌, ℕ, ◌+◌, ◌*◌, ◌/◌, ◌≤◌, take}
+use Rattle.std.specs.Prelude.{◌≡◌, Ok, Option, Some, None, List, [], ◌∷◌, ◌++◌, ℕ, ◌+◌, ◌*◌, ◌/◌, ◌≤◌, take}
 use Rattle.rules.specs.Fixed.{min_size}
 use Rattle.rules.specs.Kinds.{addr}
 use Rattle.rules.specs.Calls.{Call, opening, allocate, free, resize, extend, list, room, Outcome, refused, told, done}
@@ -26,8 +26,8 @@ hole_lines (k ∷ ks) = line 0x20 k.addr.0 k.size ++ hole_lines ks
 -- what is printed of a call
 unfoldable pub spoken : Outcome → List ℕ
 spoken (refused r) = numbers_line (refusal_numbers r)
-spoken (told a ks) = numbers_line (answer_numbers a) ++ hole_lines ks
-spoken (done a h ks) = numbers_line (answer_numbers a)
+spoken (told a ks) = numbers_line (answer_numbers (Ok a)) ++ hole_lines ks
+spoken (done a h ks) = numbers_line (answer_numbers (Ok a))
 
 -- ---- a line and the box
 
@@ -40,15 +40,15 @@ abbrev pub reply_to : Call → Heap → List ℕ → Reply
 reply_to c h m = record { printed = spoken (outcome c h m); heap = (after c h m).heap; arena = (after c h m).arena }
 
 -- a line that is no frame gives ff, 0, 0 and does nothing
-unfoldable pub reply : Frame → Heap → List ℕ → Reply
-reply (is.Open base named) h m = reply_to (opening (addr base) named) h m
-reply (is.Allocate s align) h m = reply_to (allocate s align) h m
-reply (is.Free a s align) h m = reply_to (free (addr a) s align) h m
-reply (is.Resize a s align n) h m = reply_to (resize (addr a) s align n) h m
-reply (is.Extend by) h m = reply_to (extend by) h m
-reply is.List h m = reply_to list h m
-reply (is.Room align) h m = reply_to (room align) h m
-reply is.Bad h m = record { printed = line 0xff 0 0; heap = h; arena = m }
+unfoldable pub reply : Option Frame → Heap → List ℕ → Reply
+reply (Some (is.Open base named)) h m = reply_to (opening (addr base) named) h m
+reply (Some (is.Allocate s align)) h m = reply_to (allocate s align) h m
+reply (Some (is.Free a s align)) h m = reply_to (free (addr a) s align) h m
+reply (Some (is.Resize a s align n)) h m = reply_to (resize (addr a) s align n) h m
+reply (Some (is.Extend by)) h m = reply_to (extend by) h m
+reply (Some is.List) h m = reply_to list h m
+reply (Some (is.Room align)) h m = reply_to (room align) h m
+reply None h m = record { printed = line 0xff 0 0; heap = h; arena = m }
 
 -- what a line, its LF taken off, comes to
 abbrev pub replied : List ℕ → Heap → List ℕ → Reply

@@ -8,18 +8,19 @@ ghost use Rattle.lines.specs.Wire.{numbers_line, spoken, replied, longest, Answe
 use crate::printing::{put_holes, put_line};
 use crate::reading::{Frame, read_frame};
 use crate::{ARENA, LINE, LONGEST, MOST, Replied};
-use answers::answer_numbers;
+use answers::Told;
 use rules::{Addr, Done, Heap};
 
 // Prints what a call gave back.
 fn tell(out: &mut [u8; LONGEST], done: Done) -> Replied
     ensures { (result.heap ≡ done.heap) × (take result.len out.new ≡ numbers_line (answer_numbers done.answer)) × (result.len ≤ longest) }
 {
-    let answer = done.answer;
-    let t = answer_numbers(answer);
-    put_line(out, 0, t.0, t.1, t.2);
-    let heap = done.heap;
-    Replied { heap, len: LINE }
+    let t = Told::from(done.answer);
+    put_line(&mut out[..LINE], t.no, t.one, t.two);
+    Replied {
+        heap: done.heap,
+        len: LINE,
+    }
 }
 
 // Prints the list: its line, then a line for each hole. A sound heap on this arena has at most 2,048; a
@@ -30,10 +31,10 @@ fn tell_list(h: Heap, arena: &[u8; ARENA], out: &mut [u8; LONGEST]) -> Replied
     let mut addrs = [0u64; MOST];
     let mut sizes = [0u64; MOST];
     let answer = reports::list(h, arena, &mut addrs, &mut sizes);
-    let t = answer_numbers(answer);
-    put_line(out, 0, t.0, t.1, t.2);
-    let n = t.1 as usize;
-    put_holes(out, &addrs, &sizes, n);
+    let t = Told::from(answer);
+    put_line(&mut out[..LINE], t.no, t.one, t.two);
+    let n = t.one as usize;
+    put_holes(&mut out[LINE..], &addrs[..n], &sizes[..n]);
     Replied {
         heap: h,
         len: LINE * (n + 1),
@@ -50,7 +51,10 @@ pub fn answer_line(
 ) -> Replied
     ensures { Answers (replied line.now h arena.old) result out.new arena.new }
 {
-    let frame = read_frame(line);
+    let Some(frame) = read_frame(line) else {
+        put_line(&mut out[..LINE], 0xff, 0, 0);
+        return Replied { heap: h, len: LINE };
+    };
     match frame {
         Frame::Open { base, named } => tell(out, open::open(h, arena, Addr(base), named)),
         Frame::Allocate { size, align } => tell(out, allocate::allocate(h, arena, size, align)),
@@ -68,10 +72,6 @@ pub fn answer_line(
         Frame::Room { align } => {
             let answer = reports::room(h, arena, align);
             tell(out, Done { heap: h, answer })
-        }
-        Frame::Bad => {
-            put_line(out, 0, 0xff, 0, 0);
-            Replied { heap: h, len: LINE }
         }
     }
 }

@@ -22,7 +22,8 @@ const MOST: usize = (ARENA + 16) / 32;
 // The bytes of the longest answer: the list's line, and one for each hole.
 pub const LONGEST: usize = LINE * (MOST + 1);
 
-// What a line comes to: the heap, and how many bytes of the answer are printed.
+// What a line comes to: the heap, and how many bytes of the answer are printed (into memory that is lent, since
+// nothing here allocates).
 #[derive(Clone, Copy)]
 pub struct Replied {
     pub heap: Heap,

@@ -8,7 +8,8 @@ use Rattle.rules.specs.Round.{Above}
 use Rattle.rules.specs.Sound.{sound_numbers}
 use Rattle.rules.specs.declared.Heap.{Heap}
 use Rattle.rules.specs.Inner.{Ruled}
-use Rattle.rules.proofs.Cases.{cases, iff}
+use Rattle.std.specs.Cmp.{both_ways}
+use Rattle.rules.proofs.Cases.{cases}
 use Rattle.rules.proofs.Multiples.{above_is, up_near}
 use Rattle.rules.proofs.Powers.{power_pos, grain_power}
 use Rattle.rules.proofs.Walk.{sound_ruled, ruled_sound}
@@ -24,7 +25,7 @@ module _ (h : Heap) where
 
   -- what is left to test decides
   pub decides : {b : Bool} → (b ≡ true → Ruled h) → (Ruled h → b ≡ true) → b ≡ sound_numbers h
-  decides f g = iff (λ e. ruled_sound h (f e)) (λ e. g (sound_ruled h e))
+  decides f g = both_ways _ _ (λ e. ruled_sound h (f e)) (λ e. g (sound_ruled h e))
 
   -- bottom is the base rounded up
   pub bottom_is : Ruled h → {r : ℕ} → Above grain h.base.0 r → h.bottom.0 ≡ r

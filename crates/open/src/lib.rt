@@ -1,5 +1,5 @@
 // Opening: an unopened heap, and the call that makes a heap of an arena: its tests, its decision, and
-// the decision written. No public function has a `requires`.
+// the decision carried out. No public function has a `requires`.
 #![tactic(auto)]
 
 ghost use Rattle.std.specs.Prelude.{◌≡◌, false, List, ℕ, length};
@@ -13,7 +13,7 @@ ghost use Rattle.rules.specs.Outcome.{Is, after};
 ghost use Rattle.rules.specs.Inner.{Fulfils};
 
 use align::align_up;
-use hole::{arena_len, nothing, place_of, refuse, write};
+use hole::{arena_len, carry_out, place_of};
 use numbers::{bad_opening, fair_size};
 use rules::{Addr, Answer, Decided, Done, GRAIN, Head, Heap, NONE, Place, Refusal, Write, Writes};
 
@@ -55,34 +55,30 @@ fn new(len: u64, base: Addr, named: u64) -> Heap
 
 // What an opening comes to on any arena of `len` bytes, since it reads none of them: the tests 2 and 1,
 // and the one hole that the heap begins with.
-pub fn decide(h: Heap, len: u64, base: Addr, named: u64) -> Decided
-    ensures { (m : List ℕ) → length m ≡ len → Fulfils (after (Calls.opening base named) h m) m result }
+pub fn decide(h: Heap, len: u64, base: Addr, named: u64) -> Result<Decided, Refusal>
+    ensures { (m : List ℕ) → length m ≡ len → Fulfils (after (Calls.opening base named) h m) h m result }
 {
-    if h.bottom.0 != 0 {
-        return refuse(h, Refusal::AlreadyOpened);
+    if h.bottom != Addr(0) {
+        return Err(Refusal::AlreadyOpened);
     }
     if bad_opening(len, base, named) {
-        return refuse(h, Refusal::BadOpening);
+        return Err(Refusal::BadOpening);
     }
     let heap = new(len, base, named);
     let bottom = heap.bottom;
-    let first = heap.first;
     let size = fair_size(heap);
-    let one = Write {
-        at: first,
-        head: Head {
-            size,
-            next: Place(NONE),
-        },
-    };
-    Decided {
+    let head = Head { size, next: NONE };
+    Ok(Decided {
         heap,
         answer: Answer::Opened { bottom, size },
         heads: Writes {
-            one,
-            two: nothing(),
+            one: Some(Write {
+                at: heap.first,
+                head,
+            }),
+            two: None,
         },
-    }
+    })
 }
 
 // Opens a heap on the first `named` bytes of the arena, whose first byte has the address `base`. It
@@ -90,6 +86,6 @@ pub fn decide(h: Heap, len: u64, base: Addr, named: u64) -> Decided
 pub fn open(h: Heap, arena: &mut [u8], base: Addr, named: u64) -> Done
     ensures { Is (after (Calls.opening base named) h arena.old) result arena.new }
 {
-    let d = decide(h, arena_len(arena), base, named);
-    write(arena, d)
+    let decided = decide(h, arena_len(arena), base, named);
+    carry_out(h, arena, decided)
 }

@@ -1,10 +1,7 @@
 -- The rows that a report fills, hole by hole. Assumes nothing.
-use mathlib.Core.Path.{◌≡◌, refl, sym, ap, ◌∙◌}
-use mathlib.Core.Bool.{true}
-use mathlib.Core.List.{List, [], ◌∷◌, ◌++◌, map, map-append}
-use Prim.Native.Nat.{ℕ, zero, suc, ◌+◌, ◌≤◌, ◌<◌, min}
-use native.Mathlib.Omega.{arith}
-use lib.ListN.{length, length-map, set, take}
+use Rattle.std.proofs.Common.{◌≡◌, refl, sym, ap, ◌∙◌, true, Ok, Err, None, List, [], ◌∷◌, ◌++◌, map, ℕ, zero, suc, ◌+◌, ◌≤◌, ◌<◌, min, length, set, take, arith}
+use mathlib.Core.List.{map-append}
+use lib.ListN.{length-map}
 use lib.Seq.{take_all, take_at}
 use Rattle.rules.specs.Kinds.{number}
 use Rattle.rules.specs.Sound.{sound_holes, holes}
@@ -13,14 +10,11 @@ use Rattle.rules.specs.declared.Addr.{Addr}
 use Rattle.rules.specs.declared.Place.{Place}
 use Rattle.rules.specs.declared.Hole.{Hole}
 use Rattle.rules.specs.declared.Heap.{Heap}
-use Rattle.rules.specs.Inner.{behind}
-use Rattle.rules.proofs.Cases.{cases, apart}
+use Rattle.rules.specs.Inner.{Fair, behind}
+use Rattle.rules.proofs.Cases.{apart}
 use Rattle.rules.proofs.Reports.{over_length}
-use Rattle.walk.specs.Walk.{start_of, step_of, is_end, never}
-use Rattle.walk.specs.Settled.{Settled}
-use Rattle.walk.specs.declared.Step.{Step}
-use Rattle.walk.specs.declared.Step.TheVariants as step
-use Rattle.walk.proofs.OneStep.{NotAt}
+use Rattle.walk.specs.Walk.{Stepped, found_at, start_of, step_of, never}
+use Rattle.rules.specs.declared.Refusal.{Refusal}
 use Rattle.walk.proofs.Passed.{count_more}
 use Rattle.walk.proofs.Turn.{Gone, all, begins_all, goes_on, all_left, all_end, all_break}
 use Rattle.walk.proofs.ToEnd.{by_end, by_break}
@@ -60,12 +54,12 @@ module _ (h : Heap) (m addrs₀ sizes₀ : List ℕ) where
     «addrs_are» : addrs ≡ over (map (λ k. number k.addr) front) addrs₀
     «sizes_are» : sizes ≡ over (map (λ k. k.size) front) sizes₀
 
-  pub fills : Settled h m → Filling addrs₀ sizes₀ h.first (start_of h) 0
+  pub fills : Fair h → Filling addrs₀ sizes₀ h.first (start_of h) 0
   unfolding over
-  fills s =
+  fills f =
       record {
         front = [];
-        gone = begins_all never h m s.ready.lent.fair;
+        gone = begins_all never h m f;
         count = refl;
         «addrs_are» = refl;
         «sizes_are» = refl;
@@ -79,8 +73,8 @@ module _ (h : Heap) (m addrs₀ sizes₀ : List ℕ) where
     pub sizes_length : length sizes ≡ length sizes₀
     sizes_length = rw g.«sizes_are» (over_length _ sizes₀)
 
-    module _ {st : Step} (is : st ≡ step_of h m at floor) (l : i < min (length addrs₀) (length sizes₀)) where
-      pub fills_on : {k : Hole} {q : Place} → st ≡ step.At k q
+    module _ {st : Stepped} (is : st ≡ step_of h m at floor) (l : i < min (length addrs₀) (length sizes₀)) where
+      pub fills_on : {k : Hole} {q : Place} → st ≡ found_at k q
           → Filling (set addrs i (number k.addr)) (set sizes i k.size) q (behind k) (i + 1)
       fills_on {k} {q} e =
           record {
@@ -92,19 +86,20 @@ module _ (h : Heap) (m addrs₀ sizes₀ : List ℕ) where
           }
 
       -- no further hole
-      pub fills_ended : sound_holes h (holes h m) ≡ true → NotAt st
-          → rows addrs sizes ≡ in_rows (holes h m) (rows addrs₀ sizes₀)
+      pub fills_ended : st ≡ Ok None → rows addrs sizes ≡ in_rows (holes h m) (rows addrs₀ sizes₀)
       unfolding in_rows
-      fills_ended s o =
-          cases (is_end st)
-          (λ e.
+      fills_ended e =
           let ks = (by_end never h m g.gone.fair (all_end g.gone is e)).0 in
           let c = g.count in
           let n : length g.front ≤ min (length addrs₀) (length sizes₀) = omega arith in
           let a = row_ended (λ k. number k.addr) g.front _ n in
           let b = row_ended (λ k. k.size) g.front _ n in
-          rw (g.«addrs_are», g.«sizes_are», ks, a, b))
-          (λ e. apart s (by_break never h m g.gone.fair (all_break g.gone is o e)))
+          rw (g.«addrs_are», g.«sizes_are», ks, a, b)
+
+    -- no rule is broken
+    pub fills_unbroken {ℓ} : {X : Type ℓ} {st : Stepped} → st ≡ step_of h m at floor → sound_holes h (holes h m) ≡ true
+        → {r : Refusal} → st ≡ Err r → X
+    fills_unbroken is s e = apart s (by_break never h m g.gone.fair (all_break g.gone is e))
 
     -- the shorter row is full
     pub fills_full : i ≡ min (length addrs₀) (length sizes₀) → rows addrs sizes ≡ in_rows (holes h m) (rows addrs₀ sizes₀)

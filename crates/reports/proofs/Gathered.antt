@@ -1,43 +1,34 @@
 -- What a report gathers in a pass over all holes: its last step and its sum decide the rules on them; and what a report comes to by it. Assumes
 -- nothing.
-use mathlib.Core.Path.{◌≡◌, refl, sym, ◌∙◌}
-use mathlib.Core.Bool.{true, false}
-use mathlib.Core.List.{List, [], ◌∷◌, ◌++◌}
-use Prim.Native.Nat.{ℕ, ◌+◌, ◌-◌, ◌≤◌, ◌<◌, max}
-use native.Mathlib.Omega.{arith}
+use Rattle.std.proofs.Common.{◌≡◌, refl, sym, ap, ◌∙◌, true, false, cond, Result, Ok, Err, None, List, [], ◌∷◌, ◌++◌, ℕ, ◌+◌, ◌-◌, ◌≤◌, ◌<◌, max, length, arith}
 use borrow.Author.Tests.{le-leb, lt-leb}
 use Rattle.rules.specs.Fixed.{min_size}
+use Rattle.rules.specs.Holes.{end}
 use Rattle.rules.specs.Sound.{sound_holes, holes, size}
+use Rattle.rules.specs.Allocate.{candidate, grant_of, largest_grant}
+use Rattle.rules.specs.Calls.{Call, refused, told, list, room}
+use Rattle.rules.specs.Outcome.{After, outcome, after, Rows, rows_after}
+use Rattle.rules.specs.Inner.{Fulfils, carried}
 use Rattle.rules.specs.declared.Addr.{Addr}
 use Rattle.rules.specs.declared.Place.{Place}
 use Rattle.rules.specs.declared.Hole.{Hole}
 use Rattle.rules.specs.declared.Heap.{Heap}
-use Rattle.rules.proofs.Cases.{cases, apart, by_test}
-use Rattle.walk.specs.Walk.{step_of, is_end, never}
-use Rattle.walk.specs.declared.Step.{Step}
-use Rattle.walk.proofs.OneStep.{NotAt}
-use Rattle.walk.proofs.Turn.{all_end, all_break}
-use Rattle.walk.proofs.ToEnd.{by_end, by_break}
-use Rattle.walk.proofs.Gathered.{Counting}
-use Rattle.reports.specs.Reports.{ends_sound, survey_of}
-use Rattle.reports.specs.declared.Survey.TheVariants as survey
-use lib.ListN.{length}
-use Rattle.rules.specs.Holes.{end}
-use Rattle.rules.specs.Allocate.{candidate, grant_of, largest_grant}
-use Rattle.rules.specs.Calls.{Call, refused, told, list, room}
-use Rattle.rules.specs.Outcome.{outcome}
 use Rattle.rules.specs.declared.Refusal.{Refusal}
 use Rattle.rules.specs.declared.Refusal.TheVariants.{NotSound}
 use Rattle.rules.specs.declared.Answer.TheVariants.{Listed, Room}
-use Rattle.rules.specs.Inner.{Lent}
+use Rattle.std.proofs.lemmas.Bool.{cond_both}
 use Rattle.rules.proofs.Walk.{sound_sum}
-use Rattle.rules.proofs.Decide.{Opens}
-use Rattle.rules.proofs.Calls.{sifted_sound, sifted_broken, list_on, room_on}
-use Rattle.numbers.specs.Checks.{checked_of}
-use Rattle.numbers.specs.declared.Checked.{Checked}
-use Rattle.numbers.specs.declared.Checked.TheVariants.{No}
-use Rattle.numbers.proofs.Verdicts.{Tested, refuses_call}
-use Rattle.request.proofs.Requests.{Requested}
+use Rattle.rules.proofs.Calls.{answer_refused, rows_refused, sifted_sound, sifted_broken, list_on, room_on}
+use Rattle.layout.specs.Lays.{Lays}
+use Rattle.layout.specs.declared.valid.Layout.{Layout}
+use Rattle.numbers.specs.Lends.{Lends}
+use Rattle.numbers.specs.declared.loan.Loan.{Loan}
+use Rattle.numbers.proofs.Verdicts.{passes}
+use Rattle.walk.specs.Walk.{Stepped, step_of, never, all_free}
+use Rattle.walk.proofs.Turn.{breaks_5, all_end, all_break}
+use Rattle.walk.proofs.ToEnd.{by_end, by_break}
+use Rattle.walk.proofs.Gathered.{Counting}
+use Rattle.reports.specs.Reports.{survey_of}
 use Rattle.reports.specs.declared.Survey.{Survey}
 
 -- ---- the largest grant
@@ -64,63 +55,73 @@ module _ (align : ℕ) where
 -- ---- a pass
 
 module _ {h : Heap} {m : List ℕ} {at : Place} {floor : Addr} {total n : ℕ} {front : List Hole} (c : Counting never h m at floor total n front) where
-  module _ {st : Step} (is : st ≡ step_of h m at floor) (o : NotAt st) where
-    decides : ends_sound h st total ≡ sound_holes h (holes h m)
-    unfolding ends_sound
-    decides =
-        cases (is_end st)
-        (λ e. rw (e, c.summed) (sym (by_end never h m c.gone.fair (all_end c.gone is e)).1))
-        (λ e. rw e (sym (by_break never h m c.gone.fair (all_break c.gone is o e))))
-
-    passed : ends_sound h st total ≡ true → holes h m ≡ front
-    unfolding ends_sound
-    passed y =
-        cases (is_end st)
-        (λ e. (by_end never h m c.gone.fair (all_end c.gone is e)).0)
-        (λ e. apart (rw e at y) refl)
-
-    pub surveyed : ends_sound h st total ≡ true → (align : ℕ) {g : ℕ} → g ≡ largest_grant align front → survey.Of n g ≡ survey_of h align (holes h m)
+  module _ {st : Stepped} (is : st ≡ step_of h m at floor) (align : ℕ) where
+    pub survey_broken : {r : Refusal} → st ≡ Err r → Err r ≡ survey_of h align (holes h m)
     unfolding survey_of
-    surveyed y align e = rw (← decides, y, passed y, c.counted, e)
+    survey_broken e = rw (breaks_5 c.gone is e, by_break never h m c.gone.fair (all_break c.gone is e))
 
-    pub survey_broken : ends_sound h st total ≡ false → (align : ℕ) → survey.Bad ≡ survey_of h align (holes h m)
+    pub survey_ended : st ≡ Ok None → {g : ℕ} → g ≡ largest_grant align front
+        → cond (all_free h total) (Ok (record { count = n; largest = g })) (Err NotSound) ≡ survey_of h align (holes h m)
     unfolding survey_of
-    survey_broken y align = rw (← decides, y)
+    survey_ended e g =
+        let b = by_end never h m c.gone.fair (all_end c.gone is e) in
+        rw (b.1, b.0, c.summed, c.counted, g)
 
 module _ (h : Heap) (m : List ℕ) (align : ℕ) where
   -- what was gathered of holes that keep every rule; else it is refused
-  abbrev pub Surveyed : Survey → Type 0
-  Surveyed (survey.Of n g) = (sound_holes h (holes h m) ≡ true) × (n ≡ length (holes h m)) × (g ≡ largest_grant align (holes h m))
-  Surveyed survey.Bad = sound_holes h (holes h m) ≡ false
+  abbrev Surveyed : Result Survey Refusal → Type 0
+  Surveyed (Ok s) = (sound_holes h (holes h m) ≡ true) × (s.count ≡ length (holes h m)) × (s.largest ≡ largest_grant align (holes h m))
+  Surveyed (Err r) = (sound_holes h (holes h m) ≡ false) × (r ≡ NotSound)
 
   surveys : Surveyed (survey_of h align (holes h m))
   unfolding survey_of
-  surveys = by_test Surveyed (sound_holes h (holes h m)) _ _ (λ e. (e, refl, refl)) (λ e. e)
+  surveys = cond_both (sound_holes h (holes h m)) _ _ Surveyed (λ e. (e, refl, refl)) (λ e. (e, refl))
 
-  pub survey_says : {v w : Survey} → v ≡ survey_of h align (holes h m) → v ≡ w → Surveyed w
+  pub survey_says : {v w : Result Survey Refusal} → v ≡ survey_of h align (holes h m) → v ≡ w → Surveyed w
   survey_says is e = rw (sym is ∙ e) at surveys
 
 -- ---- a report
 
-module _ (h : Heap) (m : List ℕ) where
-  pub report_no : (c : Call) → Opens c ≡ false → {len : ℕ} {v : Checked} {r : Refusal} → len ≡ length m → v ≡ checked_of len h → v ≡ No r
-      → outcome c h m ≡ refused r
-  report_no c later l is e = refuses_call c h m later (rw l at (sym is ∙ e))
+-- a refused one answers the refusal
+pub refused_answer : (c : Call) (h : Heap) (m : List ℕ) {r : Refusal} → Fulfils (after c h m) h m (Err r) → Err r ≡ (after c h m).answer
+unfolding carried
+refused_answer c h m f = ap (λ (a : After). a.answer) f.is
 
-  module _ (t : Tested h m) where
-    pub list_broken : sound_holes h (holes h m) ≡ false → outcome list h m ≡ refused NotSound
-    list_broken s = list_on h m t.lent.lent t.numbers ∙ sifted_broken h (holes h m) _ s
+-- a refused list leaves the rows too
+pub refused_list : (h : Heap) (m : List ℕ) (rows : Rows) {r : Refusal} → outcome list h m ≡ refused r
+    → (Err r ≡ (after list h m).answer) × (rows ≡ rows_after list h m rows)
+refused_list h m rows {r} e = (sym (answer_refused list h m r e), sym (rows_refused list h m r rows e))
 
-    pub list_told : (align : ℕ) {n g : ℕ} → Surveyed h m align (survey.Of n g) → outcome list h m ≡ told (Listed n (size h - h.used)) (holes h m)
-    list_told align s = list_on h m t.lent.lent t.numbers ∙ sifted_sound h (holes h m) _ s.0 ∙ rw s.1
+module _ (h : Heap) (m : List ℕ) {l : Loan} (on : Lends h m l) where
+  module _ (align : ℕ) {v : Result Survey Refusal} (is : v ≡ survey_of l.heap align (holes l.heap l.arena.now)) where
+    said : {w : Result Survey Refusal} → v ≡ w → Surveyed h m align w
+    said e = survey_says h m align (rw (on.heap, on.arena) at is) e
 
-  module _ {align w : ℕ} (q : Requested h m min_size align w) where
-    pub room_broken : sound_holes h (holes h m) ≡ false → outcome (room align) h m ≡ refused NotSound
-    room_broken s = room_on h m q.lent.lent q.numbers align q.layout ∙ sifted_broken h (holes h m) _ s
+    pub list_broken : {r : Refusal} → v ≡ Err r → outcome list h m ≡ refused r
+    list_broken {r} e =
+        let p = passes (length m) h on.checked in
+        let s : Surveyed h m align (Err r) = said e in
+        list_on h m p.0 p.1 ∙ sifted_broken h (holes h m) _ s.0 ∙ rw s.1
 
-    pub room_told : {n g : ℕ} → Surveyed h m align (survey.Of n g) → outcome (room align) h m ≡ told (Room g n) []
-    room_told s = room_on h m q.lent.lent q.numbers align q.layout ∙ sifted_sound h (holes h m) _ s.0 ∙ rw (s.1, s.2)
+    pub list_told : {s : Survey} → v ≡ Ok s → outcome list h m ≡ told (Listed s.count (size h - h.used)) (holes h m)
+    list_told {s} e =
+        let p = passes (length m) h on.checked in
+        let t : Surveyed h m align (Ok s) = said e in
+        list_on h m p.0 p.1 ∙ sifted_sound h (holes h m) _ t.0 ∙ rw t.1
 
-  -- used is a part of size, the rest of which is free
-  pub used_fits : Lent h m → sound_holes h (holes h m) ≡ true → h.used ≤ size h
-  used_fits lent s = omega (arith, sound_sum h lent.fair (holes h m) s)
+  module _ {align : ℕ} {y : Layout} (lays : Lays min_size align y) {v : Result Survey Refusal} (is : v ≡ survey_of l.heap y.align (holes l.heap l.arena.now)) where
+    pub room_broken : {r : Refusal} → v ≡ Err r → outcome (room align) h m ≡ refused r
+    room_broken {r} e =
+        let p = passes (length m) h on.checked in
+        let s : Surveyed h m align (Err r) = said align (rw lays.aligned at is) e in
+        room_on h m p.0 p.1 align lays.rounded ∙ sifted_broken h (holes h m) _ s.0 ∙ rw s.1
+
+    pub room_told : {s : Survey} → v ≡ Ok s → outcome (room align) h m ≡ told (Room s.largest s.count) []
+    room_told {s} e =
+        let p = passes (length m) h on.checked in
+        let t : Surveyed h m align (Ok s) = said align (rw lays.aligned at is) e in
+        room_on h m p.0 p.1 align lays.rounded ∙ sifted_sound h (holes h m) _ t.0 ∙ rw (t.1, t.2)
+
+-- used is a part of size, the rest of which is free
+pub used_fits : (l : Loan) → sound_holes l.heap (holes l.heap l.arena.now) ≡ true → l.heap.used ≤ size l.heap
+used_fits l s = omega (arith, sound_sum l.heap l.ready.lent.fair (holes l.heap l.arena.now) s)

@@ -1,37 +1,30 @@
 // The rows that list fills.
-ghost use Rattle.std.specs.Prelude.{◌≡◌, min};
+ghost use Rattle.std.specs.Prelude.{◌≡◌};
 ghost use Rattle.rules.specs.Sound.{holes};
 ghost use Rattle.rules.specs.Outcome.{rows, in_rows};
-ghost use Rattle.walk.specs.Settled.{Settled};
 
-use rules::Heap;
-use walk::{Step, behind, first_floor, next};
+use walk::{Sound, behind, first_floor, next};
 
-// The smaller of two lengths.
-fn shorter(a: usize, b: usize) -> usize
-    ensures { result ≡ min a b }
+// Addresses and sizes of the holes in order, as many as the shorter row holds. By index, since a proof knows
+// no more than the length of a row that `iter_mut` goes over.
+pub fn fill(sound: Sound<'_>, addrs: &mut [u64], sizes: &mut [u64])
+    ensures { rows addrs.new sizes.new ≡ in_rows (holes sound.entry.loan.heap sound.entry.loan.arena.now) (rows addrs.old sizes.old) }
 {
-    if a < b { a } else { b }
-}
-
-// Addresses and sizes of the holes in order, as many as the shorter row holds.
-pub fn fill(h: Heap, arena: &[u8], addrs: &mut [u64], sizes: &mut [u64])
-    requires { Settled h arena.now }
-    ensures { rows addrs.new sizes.new ≡ in_rows (holes h arena.now) (rows addrs.old sizes.old) }
-{
-    let mut at = h.first;
-    let mut floor = first_floor(h);
-    let end = shorter(addrs.len(), sizes.len());
-    let mut i: usize = 0;
-    while i < end {
-        let st = next(h, arena, at, floor);
-        let Step::At(hole, after) = st else {
-            return;
-        };
-        addrs[i] = hole.addr.0;
-        sizes[i] = hole.size;
-        floor = behind(hole);
-        at = after;
-        i += 1;
+    let loan = sound.loan;
+    let mut at = loan.heap.first;
+    let mut floor = first_floor(loan);
+    for i in 0..addrs.len().min(sizes.len()) {
+        match next(loan, at, floor) {
+            Ok(Some(step)) => {
+                let hole = step.hole;
+                addrs[i] = hole.addr.0;
+                sizes[i] = hole.size;
+                floor = behind(hole);
+                at = step.next;
+            }
+            Ok(None) => return,
+            // Never: the holes keep every rule.
+            Err(_) => return,
+        }
     }
 }

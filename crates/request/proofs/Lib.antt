@@ -1,4 +1,4 @@
--- The laws that the proofs of this crate and of those above it share.
+-- The laws that the proofs of the crates above share.
 
--- a request, by what its tests come to
+-- what a call comes to where its heap or its request is refused
 pub mod Requests

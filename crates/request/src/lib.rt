@@ -1,47 +1,25 @@
-// What a request is tested for before its own tests: 3, 4, 5 and 6. Allocate and free begin so.
+// The layout that a call asks for: the test of 6, which comes behind 5. Allocate, free, resize and room
+// make it.
 #![tactic(auto)]
 
-ghost use Rattle.std.specs.Prelude.{◌≡◌, cond};
-ghost use Rattle.rules.specs.Sound.{sound_holes, holes};
-ghost use Rattle.rules.specs.Inner.{Lent, Bytes};
-ghost use Rattle.request.specs.Requested.{request_of};
+ghost use Rattle.std.specs.Prelude.{MatchResult};
+ghost use Rattle.layout.specs.Lays.{Lays};
+ghost use Rattle.request.specs.Requested.{Denied};
 
-use hole::arena_len;
-use layout::align_layout;
-use numbers::Checked;
-use rules::{Heap, Layout, Refusal};
-use walk::is_sound;
+use layout::{Layout, align_layout};
+use numbers::Loan;
+use rules::Refusal;
+use walk::sound;
 
-// The rounded size that is asked for, or the refusal.
-#[derive(Clone, Copy)]
-pub enum Request {
-    Of(u64),
-    No(Refusal),
-}
-
-// A bad layout is refused only where the holes keep every rule: 5 comes first.
-pub fn bad_layout(h: Heap, arena: &[u8]) -> Refusal
-    requires { Lent h arena.now }
-    ensures { result ≡ cond (sound_holes h (holes h arena.now)) Refusal.BadLayout Refusal.NotSound }
+// The layout that is asked for, or a refusal. A bad one is refused with 6 only where the holes keep every
+// rule: 5 comes first. Where the layout is good, the holes are left to the walk that looks for a hole or
+// for a span.
+pub fn requested(loan: Loan<'_>, size: u64, align: u64) -> Result<Layout, Refusal>
+    ensures { MatchResult result (Lays size align) (Denied loan.entry.heap loan.entry.arena.now size align) }
 {
-    if is_sound(h, arena) {
-        return Refusal::BadLayout;
-    }
-    Refusal::NotSound
-}
-
-// Tests 3, 4, 5 and 6. Where the layout is good, the holes are left to the walk that looks for a hole or
-// for a span; and what is lent are bytes.
-pub fn check(h: Heap, arena: &[u8], size: u64, align: u64) -> Request
-    ensures { (result ≡ request_of h arena.now size align) × Bytes arena.now }
-{
-    let checked = numbers::check(h, arena_len(arena));
-    if let Checked::No(r) = checked {
-        return Request::No(r);
-    }
-    let layout = align_layout(size, align);
-    let Layout::Rounded(want) = layout else {
-        return Request::No(bad_layout(h, arena));
+    let Some(layout) = align_layout(size, align) else {
+        sound(loan)?;
+        return Err(Refusal::BadLayout);
     };
-    Request::Of(want)
+    Ok(layout)
 }

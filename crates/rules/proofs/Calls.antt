@@ -2,6 +2,7 @@
 -- rows. Assumes nothing.
 use mathlib.Core.Path.{◌≡◌, refl, ◌∙◌}
 use mathlib.Core.Bool.{true, false, cond}
+use Rattle.std.proofs.Common.{Ok, Err, Some, None}
 use mathlib.Core.List.{List, [], ◌∷◌, ◌++◌}
 use Prim.Native.Nat.{ℕ, ◌-◌}
 use native.Mathlib.Omega.{arith}
@@ -12,9 +13,8 @@ use Rattle.rules.specs.declared.Hole.{Hole}
 use Rattle.rules.specs.declared.Heap.{Heap}
 use Rattle.rules.specs.declared.Refusal.{Refusal}
 use Rattle.rules.specs.declared.Refusal.TheVariants.{BadOpening, AlreadyOpened, Unopened, OtherLength, NotSound, BadLayout}
-use Rattle.rules.specs.declared.Layout.TheVariants.{Rounded, Bad}
 use Rattle.rules.specs.declared.Answer.{Answer}
-use Rattle.rules.specs.declared.Answer.TheVariants.{Opened, Listed, Room, Refused}
+use Rattle.rules.specs.declared.Answer.TheVariants.{Opened, Listed, Room}
 use Rattle.rules.specs.Fixed.{min_size, grain}
 use Rattle.rules.specs.Tests.{any}
 use Rattle.rules.specs.Kinds.{raised}
@@ -32,11 +32,11 @@ use Rattle.rules.proofs.Decide.{unless_3, unless_4, unless_5, unless_fair, rest,
 -- ---- what an outcome leaves
 
 module _ (c : Call) (h : Heap) (m : List ℕ) where
-  pub answer_refused : (r : Refusal) → outcome c h m ≡ refused r → (after c h m).answer ≡ Refused r
+  pub answer_refused : (r : Refusal) → outcome c h m ≡ refused r → (after c h m).answer ≡ Err r
   unfolding after leaves
   answer_refused r e = rw e
 
-  pub answer_told : (a : Answer) (ks : List Hole) → outcome c h m ≡ told a ks → (after c h m).answer ≡ a
+  pub answer_told : (a : Answer) (ks : List Hole) → outcome c h m ≡ told a ks → (after c h m).answer ≡ Ok a
   unfolding after leaves
   answer_told a ks e = rw e
 
@@ -90,18 +90,18 @@ module _ (c : Call) (h : Heap) (m : List ℕ) (later : Opens c ≡ false) where
 module _ (h : Heap) (m : List ℕ) (lent : length m ≡ h.len) (fair : sound_numbers h ≡ true) where
   -- a call whose first test behind 5 is 6
   pub layout_6 : (c : Call) → Opens c ≡ false → {ts : List Test} (s align : ℕ) → rest c h (holes h m) ≡ test BadLayout (refusal6 s align) ∷ ts
-      → layout_of s align ≡ Bad → outcome c h m ≡ sifted h (holes h m) (refused BadLayout)
+      → layout_of s align ≡ None → outcome c h m ≡ sifted h (holes h m) (refused BadLayout)
   unfolding unless
   layout_6 c later s align e b = outcome_fair c h m later lent fair ∙ rw (e, layout_refused s align b)
 
-  pub allocate_on : (s align : ℕ) {w : ℕ} → layout_of s align ≡ Rounded w
+  pub allocate_on : (s align : ℕ) {w : ℕ} → layout_of s align ≡ Some w
       → outcome (allocate s align) h m ≡ sifted h (holes h m) (taken w align h (holes h m) (find w align (holes h m)))
   unfolding unless accepted
   allocate_on s align e =
       let l = layout_granted s align e in
       outcome_fair (allocate s align) h m refl lent fair ∙ rw (l.0, l.1)
 
-  pub free_on : (a : Addr) (s align : ℕ) {w : ℕ} → layout_of s align ≡ Rounded w
+  pub free_on : (a : Addr) (s align : ℕ) {w : ℕ} → layout_of s align ≡ Some w
       → outcome (free a s align) h m ≡ sifted h (holes h m) (freeing w a align h (holes h m))
   unfolding unless accepted freeing
   free_on a s align e =
@@ -109,14 +109,14 @@ module _ (h : Heap) (m : List ℕ) (lent : length m ≡ h.len) (fair : sound_num
       outcome_fair (free a s align) h m refl lent fair ∙ rw (l.0, l.1)
 
   -- the old layout passes and the new one does not
-  pub resize_6 : (a : Addr) (s align n : ℕ) {w : ℕ} → layout_of s align ≡ Rounded w → layout_of n align ≡ Bad
+  pub resize_6 : (a : Addr) (s align n : ℕ) {w : ℕ} → layout_of s align ≡ Some w → layout_of n align ≡ None
       → outcome (resize a s align n) h m ≡ sifted h (holes h m) (refused BadLayout)
   unfolding unless
   resize_6 a s align n e b =
       let l = layout_granted s align e in
       outcome_fair (resize a s align n) h m refl lent fair ∙ rw (l.0, layout_refused n align b)
 
-  pub resize_on : (a : Addr) (s align n : ℕ) {w q : ℕ} → layout_of s align ≡ Rounded w → layout_of n align ≡ Rounded q
+  pub resize_on : (a : Addr) (s align n : ℕ) {w q : ℕ} → layout_of s align ≡ Some w → layout_of n align ≡ Some q
       → outcome (resize a s align n) h m ≡ sifted h (holes h m) (resizing w a align q h (holes h m))
   unfolding unless accepted resizing
   resize_on a s align n e f =
@@ -132,7 +132,7 @@ module _ (h : Heap) (m : List ℕ) (lent : length m ≡ h.len) (fair : sound_num
   unfolding unless accepted
   list_on = outcome_fair list h m refl lent fair
 
-  pub room_on : (align : ℕ) {w : ℕ} → layout_of min_size align ≡ Rounded w
+  pub room_on : (align : ℕ) {w : ℕ} → layout_of min_size align ≡ Some w
       → outcome (room align) h m ≡ sifted h (holes h m) (told (Room (largest_grant align (holes h m)) (length (holes h m))) [])
   unfolding unless accepted
   room_on align e = let l = layout_granted min_size align e in outcome_fair (room align) h m refl lent fair ∙ rw l.0

@@ -1,13 +1,15 @@
 -- Going by cases on a test, with the test's equation in hand; lists of tests, test by test; one of a list. Assumes nothing.
-use mathlib.Core.Path.{◌≡◌, refl, sym, subst, ◌∙◌}
-use mathlib.Core.Bool.{Bool, true, false, ◌&&◌, ◌||◌, cond, or-false}
+use mathlib.Core.Path.{◌≡◌, refl, sym, ap, subst, ◌∙◌}
+use Rattle.std.proofs.Common.{Result, Err, IsErrAnd}
+use Rattle.std.proofs.lemmas.Result.{err_from_is_err_and}
+use mathlib.Core.Bool.{Bool, true, false, ◌||◌, cond, or-false}
 use mathlib.Core.List.Memᴰ
 use mathlib.Core.List.{List, [], ◌∷◌, Memᴰ}
 use mathlib.Core.Logic.{⊎_elim}
 use Prim.Native.Nat.{ℕ, ◌≤◌, ◌<◌}
-use native.Mathlib.Omega.{arith}
 use lib.Dec.{leb, eqb}
 use borrow.Author.Tests.{leb-true, leb-false, eqb-true, eqb-false}
+use Rattle.std.proofs.lemmas.Bool.{and_parts, and_from, or_parts, or_from}
 use Rattle.rules.specs.Tests.{all, any}
 
 pub cases {ℓ} : {X : Type ℓ} (b : Bool) → (b ≡ true → X) → (b ≡ false → X) → X
@@ -27,38 +29,13 @@ by_test P false x y f g = g refl
 
 -- true and false are two
 pub apart {ℓ} : {X : Type ℓ} {b : Bool} → b ≡ true → b ≡ false → X
-apart e f = let z : ◌≡◌ {A = ℕ} 0 1 = cc in absurd (omega arith)
+apart e f = cc
 
 -- ---- two tests
-
-pub iff : {a b : Bool} → (a ≡ true → b ≡ true) → (b ≡ true → a ≡ true) → a ≡ b
-iff {a} {b} f g = cases a (λ e. e ∙ sym (f e)) (λ e. cases b (λ k. apart (g k) e) (λ k. e ∙ sym k))
-
-pub and_left : (a b : Bool) → (a && b) ≡ true → a ≡ true
-and_left true b e = refl
-and_left false b e = e
-
-pub and_right : (a b : Bool) → (a && b) ≡ true → b ≡ true
-and_right true b e = e
-and_right false b e = cc
-
-pub both : {a b : Bool} → a ≡ true → b ≡ true → (a && b) ≡ true
-both e f = rw e f
-
-pub or_left : (a b : Bool) → (a || b) ≡ false → a ≡ false
-or_left true b e = e
-or_left false b e = refl
-
-pub or_right : (a b : Bool) → (a || b) ≡ false → b ≡ false
-or_right true b e = cc
-or_right false b e = e
 
 -- the last of several tests, once the others have failed
 pub last : (a : Bool) → (a || false) ≡ true → a ≡ true
 last a e = sym (or-false a) ∙ e
-
-pub neither : {a b : Bool} → a ≡ false → b ≡ false → (a || b) ≡ false
-neither e f = rw e f
 
 -- ---- a list of tests
 
@@ -69,19 +46,19 @@ Each t (b ∷ bs) = (b ≡ t) × Each t bs
 
 pub all_each : (bs : List Bool) → all bs ≡ true → Each true bs
 all_each [] e = tt
-all_each (b ∷ bs) e = (and_left b (all bs) e, all_each bs (and_right b (all bs) e))
+all_each (b ∷ bs) e = let p = and_parts b (all bs) e in (p.0, all_each bs p.1)
 
 pub each_all : (bs : List Bool) → Each true bs → all bs ≡ true
 each_all [] p = refl
-each_all (b ∷ bs) p = both p.0 (each_all bs p.1)
+each_all (b ∷ bs) p = and_from b (all bs) p.0 (each_all bs p.1)
 
 pub any_each : (bs : List Bool) → any bs ≡ false → Each false bs
 any_each [] e = tt
-any_each (b ∷ bs) e = (or_left b (any bs) e, any_each bs (or_right b (any bs) e))
+any_each (b ∷ bs) e = let p = or_parts b (any bs) e in (p.0, any_each bs p.1)
 
 pub each_any : (bs : List Bool) → Each false bs → any bs ≡ false
 each_any [] p = refl
-each_any (b ∷ bs) p = neither p.0 (each_any bs p.1)
+each_any (b ∷ bs) p = or_from b (any bs) p.0 (each_any bs p.1)
 
 -- ---- one of a list
 
@@ -98,3 +75,8 @@ module _ {A : Type 0} (P : A → Type 0) {k : A} {ks : List A} where
 
   pub some_cases {ℓ} : {X : Type ℓ} → Some P (k ∷ ks) → (P k → X) → (Some P ks → X) → X
   some_cases (j, m, p) f g = ⊎_elim (λ e. f (subst P e p)) (λ t. g (j, t, p)) (Memᴰ.cases_cons m)
+
+-- ---- the exit of a `?`: it returns the refusal that the callee gave
+
+pub handed_on : {T E : Type 0} {r : Result T E} {e : E} → IsErrAnd r (λ y. y ≡ e) → r ≡ Err e
+handed_on {r = r} i = let p = err_from_is_err_and r i in p.1 ∙ ap Err p.2

@@ -15,7 +15,8 @@ use Rattle.rules.specs.Holes.{end, total}
 use Rattle.rules.specs.Free.{overlaps, eight, eight_to_hole}
 use Rattle.rules.specs.Refusals.{refusal8}
 use Rattle.rules.specs.Inner.{Rises, end_or}
-use Rattle.rules.proofs.Cases.{cases, by_le, apart, or_left, or_right, neither, any_each}
+use Rattle.std.proofs.lemmas.Bool.{or_from, or_parts}
+use Rattle.rules.proofs.Cases.{cases, by_le, apart, any_each}
 use Rattle.rules.proofs.Rises.{rises_le, rises_front, rises_back}
 
 -- ---- the tests on one hole
@@ -88,7 +89,7 @@ passed h ks g align e =
 
 pub clear_rest : (g k : Hole) (ks : List Hole) → Clear g (k ∷ ks) → Clear g ks
 unfolding overlaps eight_to_hole
-clear_rest g k ks c = (or_right (overlap g k) (overlaps g ks) c.0, or_right (near g k) (eight_to_hole g ks) c.1)
+clear_rest g k ks c = ((or_parts (overlap g k) (overlaps g ks) c.0).1, (or_parts (near g k) (eight_to_hole g ks) c.1).1)
 
 -- a hole that the span is clear of follows it, or it follows the hole
 pub clear_follows : (g k : Hole) (ks : List Hole) → Clear g (k ∷ ks) → min_size ≤ k.size → g.addr.0 < k.addr.0
@@ -153,7 +154,7 @@ pub clear_none : (lo hi : ℕ) (g : Hole) (front back : List Hole) → Rises lo 
 clear_none lo hi g front back r a b =
     let x = clear_before lo g front (rises_front lo hi front back r) a in
     let y = clear_behind (end_or lo front) hi g back (rises_back lo hi front back r) b in
-    (rw (overlaps_append g front back) (neither x.0 y.0), rw (eight_append g front back) (neither x.1 y.1))
+    (rw (overlaps_append g front back) (or_from _ _ x.0 y.0), rw (eight_append g front back) (or_from _ _ x.1 y.1))
 
 -- ---- the room that the holes leave
 
@@ -178,7 +179,7 @@ unfolding overlaps total
 clear_room lo hi g [] r l m e = omega arith
 clear_room lo hi g (k ∷ ks) r l m e =
     by_le (end k).0 g.addr.0
-    (λ d. omega (arith, clear_room (end k).0 hi g ks r.2 d m (or_right (overlap g k) (overlaps g ks) e)))
+    (λ d. omega (arith, clear_room (end k).0 hi g ks r.2 d m (or_parts (overlap g k) (overlaps g ks) e).1))
     (λ d.
-    let p = overlap_none g k (or_left (overlap g k) (overlaps g ks) e) d in
+    let p = overlap_none g k (or_parts (overlap g k) (overlaps g ks) e).0 d in
     omega (arith, rises_total (end k).0 hi ks r.2, rises_le (end k).0 hi ks r.2))

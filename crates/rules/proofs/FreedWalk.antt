@@ -14,7 +14,8 @@ use Rattle.rules.specs.Kinds.{before}
 use Rattle.rules.specs.Holes.{end}
 use Rattle.rules.specs.Free.{touch, joined, in_front, freed}
 use Rattle.rules.specs.Inner.{Fair, behind, ends}
-use Rattle.rules.proofs.Cases.{cases, by_test}
+use Rattle.std.proofs.lemmas.Bool.{cond_both}
+use Rattle.rules.proofs.Cases.{cases}
 use Rattle.rules.proofs.Gaps.{gap_apart, eights_gap}
 use Rattle.rules.proofs.Walk.{Keeps, walks, floor_of, walks_head, walks_tail, walks_cons, ends_low, ends_top, gap_floor}
 use Rattle.rules.proofs.Floors.{walks_floor}
@@ -56,7 +57,7 @@ module _ (h : Heap) (top8 : h.top.0 % grain ≡ 0) where
   in_front_walks lo floor g [] s l w c = walks_cons h floor g [] (omega arith) (unfold walks in span_ends h g top8 s)
   in_front_walks lo floor g (k ∷ ks) s l w c =
       let q = walks_head h lo k ks w in
-      by_test (λ (js : List Hole). walks h floor js ≡ true) (touch g k) (joined g k ∷ ks) (g ∷ k ∷ ks)
+      cond_both (touch g k) (joined g k ∷ ks) (g ∷ k ∷ ks) (λ (js : List Hole). walks h floor js ≡ true)
       (λ e.
       let t = eqb-true (end g).0 k.addr.0 e in
       let same_end : g.addr.0 + (g.size + k.size) + min_size ≡ k.addr.0 + k.size + min_size = omega arith in
@@ -83,11 +84,11 @@ module _ (h : Heap) (top8 : h.top.0 % grain ≡ 0) where
       let rest = walks_tail h floor k ks w in
       let q = walks_head h floor k ks w in
       let P : List Hole → Type 0 = λ js. walks h floor js ≡ true in
-      by_test P (before g.addr k.addr) (in_front g (k ∷ ks)) _
+      cond_both (before g.addr k.addr) (in_front g (k ∷ ks)) _ P
       (λ e. in_front_walks floor floor g (k ∷ ks) s l w (clear_follows g k ks c q.least (ltb-true g.addr.0 k.addr.0 e)))
       (λ e.
       let f = clear_followed g k ks c s.sixteen (ltb-false g.addr.0 k.addr.0 e) in
-      by_test P (touch k g) (in_front (joined k g) ks) (k ∷ freed g ks)
+      cond_both (touch k g) (in_front (joined k g) ks) (k ∷ freed g ks) P
       (λ t.
       let z = eqb-true (end k).0 g.addr.0 t in
       in_front_walks (behind k) floor (joined k g) ks (span_joined h floor g k s q z) q.above rest

@@ -1,12 +1,12 @@
 -- The rounded size, and when refusal 6 is due: `layout_of`, case by case and back. Assumes nothing.
 use mathlib.Core.Path.{◌≡◌, refl}
 use mathlib.Core.Bool.{true, false}
+use Rattle.std.proofs.Common.{Some, None}
 use Prim.Native.Nat.{ℕ, ◌+◌, ◌-◌, ◌%◌, ◌^◌, ◌≤◌, ◌<◌, max}
 use native.Mathlib.Omega.{arith}
 use native.Mathlib.Nat.{le-max_left, le-max_right}
 use lib.Count.{ones_in}
 use borrow.Author.Tests.{ltb-false, eqb-true, not-false, eq-eqb, ne_eqb, lt-ltb, le-ltb}
-use Rattle.rules.specs.declared.Layout.TheVariants.{Rounded, Bad}
 use Rattle.rules.specs.Fixed.{addr_limit, min_size, grain, width}
 use Rattle.rules.specs.Round.{Power, Above}
 use Rattle.rules.specs.Tests.{any}
@@ -38,38 +38,36 @@ rounded_multiple s = (rounded_is s).multiple
 -- ---- refusal 6
 
 module _ (s a : ℕ) where
-  pub layout_no_power : (ones_in width a ≡ 1 → ⊥) → layout_of s a ≡ Bad
+  pub layout_no_power : (ones_in width a ≡ 1 → ⊥) → layout_of s a ≡ None
   unfolding layout_of
   layout_no_power ne = rw (ne_eqb (ones_in width a) 1 ne)
 
-  pub layout_large : addr_limit - a < rounded s → layout_of s a ≡ Bad
+  pub layout_large : addr_limit - a < rounded s → layout_of s a ≡ None
   unfolding layout_of
   layout_large l = cases (one_power a) (λ e. rw (e, lt-ltb (addr_limit - a) (rounded s) l)) (λ e. rw e)
 
-  pub layout_fits : ones_in width a ≡ 1 → rounded s ≤ addr_limit - a → layout_of s a ≡ Rounded (rounded s)
+  pub layout_fits : ones_in width a ≡ 1 → rounded s ≤ addr_limit - a → layout_of s a ≡ Some (rounded s)
   unfolding layout_of
   layout_fits e l = rw (eq-eqb (ones_in width a) 1 e, le-ltb (addr_limit - a) (rounded s) l)
 
-  pub layout_refused : layout_of s a ≡ Bad → any (refusal6 s a) ≡ true
+  pub layout_refused : layout_of s a ≡ None → any (refusal6 s a) ≡ true
   unfolding layout_of
   layout_refused e =
       cases (any (refusal6 s a))
       (λ t. t)
       (λ t.
-      let g : layout_of s a ≡ Rounded (rounded s) = rw t in
-      let z : ◌≡◌ {A = ℕ} 0 1 = cc in
-      absurd (omega arith))
+      let g : layout_of s a ≡ Some (rounded s) = rw t in
+      cc)
 
-  pub layout_granted : {w : ℕ} → layout_of s a ≡ Rounded w → (any (refusal6 s a) ≡ false) × (w ≡ rounded s)
+  pub layout_granted : {w : ℕ} → layout_of s a ≡ Some w → (any (refusal6 s a) ≡ false) × (w ≡ rounded s)
   unfolding layout_of
   layout_granted {w} e =
       cases (any (refusal6 s a))
       (λ t.
-      let b : layout_of s a ≡ Bad = rw t in
-      let z : ◌≡◌ {A = ℕ} 0 1 = cc in
-      absurd (omega arith))
+      let b : layout_of s a ≡ None = rw t in
+      cc)
       (λ t.
-      let g : layout_of s a ≡ Rounded (rounded s) = rw t in
+      let g : layout_of s a ≡ Some (rounded s) = rw t in
       let r : w ≡ rounded s = cc in
       (t, r))
 
@@ -88,5 +86,5 @@ layout_passed s a l e =
       room = omega (arith, ltb-false (addr_limit - a) (rounded s) r.1.0, rounded_least s);
     }
 
-pub layout_valid : (s a r : ℕ) → a < 2 ^ width → layout_of s a ≡ Rounded r → Valid s a r
+pub layout_valid : (s a r : ℕ) → a < 2 ^ width → layout_of s a ≡ Some r → Valid s a r
 layout_valid s a r l t = let g = layout_granted s a t in rw g.1 (layout_passed s a l g.0)

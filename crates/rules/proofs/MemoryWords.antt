@@ -1,5 +1,6 @@
 -- After an accepted call each head holds its hole's numbers, and every byte that lies in no head of the new list is what it was.
 -- Assumes nothing.
+use Rattle.std.proofs.Common.{Ok}
 use mathlib.Core.Path.{◌≡◌, refl}
 use mathlib.Core.List.{List, [], ◌∷◌, Memᴰ}
 use Prim.Native.Nat.{ℕ, suc, ◌+◌, ◌-◌, ◌≤◌}
@@ -42,7 +43,7 @@ no_head_of base i (k ∷ ks) f = (
 )
 
 after_done : (c : Call) (h : Heap) (m : List ℕ) (a : Answer) (h' : Heap) (ks : List Hole) → outcome c h m ≡ done a h' ks
-    → after c h m ≡ record { answer = a; heap = h'; arena = put_heads h'.base ks m }
+    → after c h m ≡ record { answer = Ok a; heap = h'; arena = put_heads h'.base ks m }
 unfolding after leaves
 after_done c h m a h' ks e = rw e
 

@@ -20,7 +20,8 @@ use Rattle.rules.specs.Outcome.{decided, outcome}
 use Rattle.rules.specs.Behaviour.{ours}
 use Rattle.rules.specs.Statements.{OpenDoes}
 use Rattle.rules.specs.Inner.{Ruled}
-use Rattle.rules.proofs.Cases.{both, any_each, each_all}
+use Rattle.std.proofs.lemmas.Bool.{and_from}
+use Rattle.rules.proofs.Cases.{any_each, each_all}
 use Rattle.rules.proofs.SoundWords.{left_is}
 use Rattle.rules.proofs.Gaps.{words_gap}
 use Rattle.rules.proofs.TestWords.{means_fails, no_start}
@@ -51,7 +52,7 @@ module _ (len : ℕ) (base : Addr) (named : ℕ) (pass : any (refusal1 len base 
       let k = only_hole base named in
       let r = any_each (refusal1 len base named) pass in
       each_all (list_rules h (k ∷ [])) (
-        both (each_all (hole_rules h k) (omega (arith, ltb-false, le-leb, eq-eqb))) refl,
+        and_from _ _ (each_all (hole_rules h k) (omega (arith, ltb-false, le-leb, eq-eqb))) refl,
         (
           refl,
           (

@@ -1,12 +1,13 @@
 -- Powers of two, at any width: known by their count of ones, the mask that takes a remainder, and how they stand to 8. Assumes nothing.
-use mathlib.Core.Path.{◌≡◌, refl, ap, ◌∙◌}
+use mathlib.Core.Path.{◌≡◌, refl, sym, ap, ◌∙◌}
 use mathlib.Core.Logic.{◌⊎◌, inl, inr}
 use Prim.Native.Nat.{ℕ, zero, suc, ◌+◌, ◌-◌, ◌*◌, ◌/◌, ◌%◌, ◌^◌, ◌≤◌, ◌<◌}
 use native.Mathlib.Omega.{arith}
 use native.Mathlib.Nat.{pow-suc}
 use lib.Pow.{pow_pos, pow_mono}
 use lib.Bits.{bit_and, and_mask}
-use lib.Count.{ones, ones_in, ones_step}
+use lib.Count.{ones, ones_in, ones_step, ones_cat}
+use Rattle.std.proofs.lemmas.Nat.{zero_from_ones}
 use Rattle.rules.specs.Fixed.{grain}
 use Rattle.rules.specs.Round.{Power}
 use Rattle.rules.proofs.Cases.{by_eq, by_le}
@@ -35,19 +36,6 @@ ones_in_lem (suc k) a l =
     let e : 2 ^ suc k ≡ 2 ^ k * 2 = pow-suc 2 k in
     ones_step a ∙ ap (λ (n : ℕ). a % 2 + n) (ones_in_lem k (a / 2) (omega arith))
 
-ones_zero : (k : ℕ) → ones_in k 0 ≡ 0
-unfolding ones_in
-ones_zero zero = refl
-ones_zero (suc k) = omega (arith, ones_zero k)
-
-no_ones : (k a : ℕ) → a < 2 ^ k → ones_in k a ≡ 0 → a ≡ 0
-unfolding ones_in
-no_ones zero a l e = omega arith
-no_ones (suc k) a l e =
-    let p : 2 ^ suc k ≡ 2 ^ k * 2 = pow-suc 2 k in
-    let z : a / 2 ≡ 0 = no_ones k (a / 2) (omega arith) (omega arith) in
-    omega arith
-
 double : (a : ℕ) → a % 2 ≡ 0 → Power (a / 2) → Power a
 double a e p =
     let h : a / 2 ≡ 2 ^ p.exponent = p.is in
@@ -62,22 +50,19 @@ one_power_lem (suc k) a l e =
     by_eq (a % 2) 0
     (λ z. double a z (one_power_lem k (a / 2) (omega arith) (omega arith)))
     (λ z.
-    let r : a / 2 ≡ 0 = no_ones k (a / 2) (omega arith) (omega arith) in
+    let h : a / 2 < 2 ^ k = omega arith in
+    let none : ones_in k (a / 2) ≡ 0 = omega arith in
+    let r : a / 2 ≡ 0 = zero_from_ones (a / 2) (ones_in_lem k (a / 2) h ∙ none) in
     record { exponent = 0; is = omega arith })
 
-ones_power : (k e : ℕ) → 2 ^ e < 2 ^ k → ones_in k (2 ^ e) ≡ 1
-unfolding ones_in
-ones_power zero e l = let p : 0 < 2 ^ e = pow_pos e in absurd (omega arith)
-ones_power (suc k) zero l = ap (λ (n : ℕ). 1 + n) (ones_zero k)
-ones_power (suc k) (suc e) l =
-    let p : 2 ^ suc k ≡ 2 ^ k * 2 = pow-suc 2 k in
-    let q : 2 ^ suc e ≡ 2 ^ e * 2 = pow-suc 2 e in
-    let h : 2 ^ suc e / 2 ≡ 2 ^ e = omega arith in
-    let i : ones_in k (2 ^ suc e / 2) ≡ 1 = rw h (ones_power k e (omega arith)) in
-    omega arith
+one_bit : (e : ℕ) → ones (2 ^ e) ≡ 1
+unfolding ones_in ones
+one_bit e =
+    let is : 2 ^ e ≡ 1 * 2 ^ e + 0 = omega arith in
+    ap ones is ∙ ones_cat e 1 0 (pow_pos e)
 
 pub power_one : (k : ℕ) {a : ℕ} → Power a → a < 2 ^ k → ones_in k a ≡ 1
-power_one k p l = rw p.is (ones_power k p.exponent (rw p.is at l))
+power_one k {a} p l = sym (ones_in_lem k a l) ∙ rw p.is (one_bit p.exponent)
 
 -- ---- against 8, the grain of addresses and sizes
 

@@ -3,14 +3,14 @@ use mathlib.Core.Path.{◌≡◌, refl, ap}
 use mathlib.Core.Bool.{true, false, not}
 use mathlib.Core.List.{List, [], ◌∷◌, ◌++◌}
 use Prim.Native.Nat.{ℕ, ◌+◌}
-use native.Mathlib.Omega.{arith}
 use lib.Dec.{ltb}
 use lib.ListN.{length}
 use borrow.Author.Tests.{not-false}
+use Rattle.std.proofs.Common.{Decides as Means}
+use Rattle.std.proofs.lemmas.Bool.Decides.{Decides-not, Decides-eqb, Decides-ltb}
 use Rattle.rules.specs.declared.Hole.{Hole}
 use Rattle.rules.specs.declared.Heap.{Heap}
 use Rattle.rules.specs.declared.Refusal.TheVariants.{Unopened, OtherLength, NotSound, BadLayout, NoRoom}
-use Rattle.rules.specs.declared.Answer.{Answer}
 use Rattle.rules.specs.Fixed.{min_size}
 use Rattle.rules.specs.Holes.{hole}
 use Rattle.rules.specs.Round.{Power}
@@ -18,18 +18,19 @@ use Rattle.rules.specs.Tests.{any}
 use Rattle.rules.specs.Sound.{sound_numbers, sound_holes, sound, holes}
 use Rattle.rules.specs.Allocate.{rounded, candidate, Found, nothing, found, find}
 use Rattle.rules.specs.Changes.{Change, Report}
-use Rattle.rules.specs.Calls.{opening, change, report, list, Outcome, refused, told, done, taken, given, refitted, gathered, grown, extended, accepted}
+use Rattle.rules.specs.Calls.{opening, change, report, list, Outcome, refused, taken, given, refitted, gathered, grown, extended, accepted}
 use Rattle.rules.specs.Refusals.{refusal3, refusal4, Test, test, opened_tests, change_tests, report_tests, tests, unless}
 use Rattle.rules.specs.Outcome.{decided, outcome}
 use Rattle.rules.specs.InWords.{Rounds, RoomAt, NoLayout, NoSpan, NoStretch}
 use Rattle.rules.specs.Runs.{Fits}
 use Rattle.rules.specs.Behaviour.{ours}
 use Rattle.rules.specs.Statements.{Row, Decides, row, change_rows, report_rows, refusals_of, RefusalsExactly}
-use Rattle.rules.proofs.Cases.{cases, by_test, or_left}
+use Rattle.std.proofs.lemmas.Bool.{cond_both, or_parts}
+use Rattle.rules.proofs.Cases.{cases}
 use Rattle.rules.proofs.Layouts.{layout_passed}
 use Rattle.rules.proofs.Decide.{one_test}
 use Rattle.rules.proofs.SoundWords.{rounded_rounds, rounds_rounded, sound_words, sound_means, words_fair, words_holes}
-use Rattle.rules.proofs.TestWords.{Means, means_eq, means_lt, means_not, means_last, means_rounds, no_start, no_layout, no_span}
+use Rattle.rules.proofs.TestWords.{means_last, means_rounds, no_start, no_layout, no_span}
 use Rattle.rules.proofs.Suits.{nothing_room, found_room}
 use Rattle.rules.proofs.Walk.{floor_of, sound_walk}
 use Rattle.rules.proofs.ResizeWords.{no_stretch}
@@ -60,16 +61,10 @@ decides (t ∷ ts) us (q ∷ qs) o m f = (
 
 -- ---- what is no refusal
 
-done_passes : (a : Answer) (h : Heap) (ks : List Hole) → Decides [] (done a h ks)
-done_passes a h ks r e = let z : ◌≡◌ {A = ℕ} 0 1 = cc in omega arith
-
-told_passes : (a : Answer) (ks : List Hole) → Decides [] (told a ks)
-told_passes a ks r e = let z : ◌≡◌ {A = ℕ} 0 1 = cc in omega arith
-
 extended_passes : (by : ℕ) (h : Heap) (ks : List Hole) → Decides [] (extended by h ks)
 unfolding extended gathered grown
 extended_passes by h ks =
-    by_test (Decides []) (ltb (h.pending + by) min_size) _ _ (λ e. done_passes _ _ _) (λ e. done_passes _ _ _)
+    cond_both (ltb (h.pending + by) min_size) _ _ (Decides []) (λ e r p. cc) (λ e r p. cc)
 
 -- ---- the rows of the calls
 
@@ -84,10 +79,10 @@ module _ (h : Heap) (m : List ℕ) where
       (decides (refusals_of ours list h m) us
       (test Unopened (refusal3 h) ∷ test OtherLength (refusal4 (length m) h) ∷ test NotSound (not (sound h ks) ∷ []) ∷ []) (unless qs o) (
         refl,
-        means_last (means_eq h.bottom.0 0),
-        (refl, means_last (means_not (means_eq (length m) h.len)), (refl, means_last (means_not (sound_means h ks)), tt)),
+        means_last (Decides-eqb h.bottom.0 0),
+        (refl, means_last (Decides-not _ (Decides-eqb (length m) h.len)), (refl, means_last (Decides-not _ (sound_means h ks)), tt)),
       )
-      (λ p. f (not-false (sound h ks) (or_left (not (sound h ks)) false p.1.1.0))))
+      (λ p. f (not-false (sound h ks) (or_parts (not (sound h ks)) false p.1.1.0).0)))
 
   -- 7: where no hole is found there is no room, and where one is there is
   room_decides : (s align : ℕ) (f : Found) → Power align → sound h (holes h m) ≡ true → find (rounded s) align (holes h m) ≡ f
@@ -107,7 +102,7 @@ module _ (h : Heap) (m : List ℕ) where
     λ n.
         absurd
         (n (rounded s) (rounded_rounds s) (candidate align k.addr).0 (found_room (rounded s) align p (holes h m) front back k q)),
-    λ n. done_passes _ _ _,
+    λ n r e. cc,
   )
 
   change_decides : (c : Change) → Fits (change c) → sound h (holes h m) ≡ true
@@ -124,7 +119,7 @@ module _ (h : Heap) (m : List ℕ) where
         no_layout s align f.2,
         (refl, means_rounds (λ r. NoSpan h (holes h m) x.0 r align) s (no_span x (rounded s) h (holes h m) align), tt),
       )
-      (λ p. done_passes _ _ _)
+      (λ p r e. cc)
   change_decides (Change.resize x s align n) f e =
       let ks = holes h m in
       let good = sound_words h ks e in
@@ -147,25 +142,25 @@ module _ (h : Heap) (m : List ℕ) where
           ),
         ),
       )
-      (λ p. done_passes _ _ _)
+      (λ p r e. cc)
   change_decides (Change.extend by) f e =
       decides (change_rows ours (Change.extend by) h m) [] (change_tests (Change.extend by) h (holes h m)) _
-      (refl, means_last (means_lt (h.base.0 + h.len) (h.top.0 + h.pending + by)), tt)
+      (refl, means_last (Decides-ltb (h.base.0 + h.len) (h.top.0 + h.pending + by)), tt)
       (λ p. extended_passes by h (holes h m))
 
   report_decides : (r : Report) → Fits (report r) → sound h (holes h m) ≡ true
       → Decides (report_rows r) (unless (report_tests r) (accepted (report r) (length m) h (holes h m)))
   unfolding unless accepted
-  report_decides Report.list f e = told_passes _ _
+  report_decides Report.list f e = λ r p. cc
   report_decides (Report.room align) f e =
-      decides (report_rows (Report.room align)) [] (report_tests (Report.room align)) _ (refl, no_layout 16 align f, tt) (λ p. told_passes _ _)
+      decides (report_rows (Report.room align)) [] (report_tests (Report.room align)) _ (refl, no_layout 16 align f, tt) (λ p r k. cc)
 
 pub refusals_exactly : RefusalsExactly ours
 unfolding outcome decided tests unless accepted
 refusals_exactly (opening base named) h m f =
     decides (refusals_of ours (opening base named) h m) [] (tests (opening base named) (length m) h (holes h m)) _
-    (refl, means_last (means_not (means_eq h.bottom.0 0)), (refl, no_start (length m) base named, tt))
-    (λ p. done_passes _ _ _)
+    (refl, means_last (Decides-not _ (Decides-eqb h.bottom.0 0)), (refl, no_start (length m) base named, tt))
+    (λ p r e. cc)
 refusals_exactly (change c) h m f =
     opened_decides h m (change_rows ours c h m) (change_tests c h (holes h m)) _ (change_decides h m c f)
 refusals_exactly (report r) h m f = opened_decides h m (report_rows r) (report_tests r) _ (report_decides h m r f)

@@ -8,6 +8,8 @@ use mathlib.Core.Logic.{◌⊎◌, inl, inr, ⊎_elim}
 use Prim.Native.Nat.{ℕ, ◌+◌, ◌-◌, ◌%◌, ◌≤◌, ◌<◌}
 use native.Mathlib.Omega.{arith}
 use borrow.Author.Tests.{eqb-true, eqb-false, ne_eqb, not-false}
+use Rattle.std.proofs.Common.{Decides}
+use Rattle.std.proofs.lemmas.Bool.Decides.{Decides-not}
 use Rattle.rules.specs.declared.Addr.{Addr}
 use Rattle.rules.specs.declared.Hole.{Hole}
 use Rattle.rules.specs.declared.Heap.{Heap}
@@ -25,7 +27,8 @@ use Rattle.rules.specs.InWords.{Gap, Within, Vacant, StretchEnds, NoStretch}
 use Rattle.rules.specs.Behaviour.{ours}
 use Rattle.rules.specs.Statements.{ResizeDoes, SameSizeGranted}
 use Rattle.rules.specs.Inner.{Fair, Rises, behind}
-use Rattle.rules.proofs.Cases.{by_test, by_le, or_left}
+use Rattle.std.proofs.lemmas.Bool.{cond_both, or_parts}
+use Rattle.rules.proofs.Cases.{by_le}
 use Rattle.rules.proofs.Gaps.{gap_words, words_gap, gap_le}
 use Rattle.rules.proofs.Walk.{walks, floor_of, walks_head, walks_tail, sound_walk, sound_sum, walk_sound}
 use Rattle.rules.proofs.Floors.{raised_walk}
@@ -37,7 +40,7 @@ use Rattle.rules.proofs.FreedWalk.{Span}
 use Rattle.rules.proofs.FreeKept.{renewed_ruled, free_room, free_sound}
 use Rattle.rules.proofs.Resized.{stretch_touch, floor_resized, resized_added}
 use Rattle.rules.proofs.SoundWords.{rounds_rounded, words_ruled, ruled_words}
-use Rattle.rules.proofs.TestWords.{Means, means_not, means_last, means_fails, no_span}
+use Rattle.rules.proofs.TestWords.{means_last, means_fails, no_span}
 use Rattle.rules.proofs.Good.{good_fair, good_holes, good_outcome, valid_passes, renewed_becomes}
 
 -- ---- where the stretch ends
@@ -46,7 +49,7 @@ stretch_ends : (g : Hole) (ks : List Hole) → StretchEnds ks g.addr.0 g.size (s
 unfolding stretch_end
 stretch_ends g [] = inr (λ k m. absurd (Memᴰ.not-nil m), refl)
 stretch_ends g (k ∷ ks) =
-    by_test (λ (e : Addr). StretchEnds (k ∷ ks) g.addr.0 g.size e.0) (touch g k) (end k) (stretch_end g ks)
+    cond_both (touch g k) (end k) (stretch_end g ks) (λ (e : Addr). StretchEnds (k ∷ ks) g.addr.0 g.size e.0)
     (λ t. inl (k, Memᴰ.head refl, sym (eqb-true (end g).0 k.addr.0 t), refl))
     (λ t.
     ⊎_elim
@@ -97,11 +100,11 @@ module _ (h : Heap) (g : Hole) where
   ends_stretch floor ks w (inr (none, ends)) = ap (λ (a : Addr). a.0) (untouched_ends ks none) ∙ ends
 
   pub no_stretch : (floor : Addr) (ks : List Hole) (s : ℕ) → walks h floor ks ≡ true
-      → Means (any (refusal10 ks g s)) (NoStretch ks g.addr.0 g.size s)
+      → Decides (any (refusal10 ks g s)) (NoStretch ks g.addr.0 g.size s)
   no_stretch floor ks s w =
       let lo = plus g.addr s in
       let hi = stretch_end g ks in
-      let m = means_last (means_not (gap_words lo hi, words_gap lo hi)) in (
+      let m = means_last (Decides-not _ (gap_words lo hi, words_gap lo hi)) in (
         λ t. (hi.0, stretch_ends g ks, m.0 t),
         λ (e, ends, n). m.1 (subst (λ (z : ℕ). Gap lo.0 z → ⊥) (sym (ends_stretch floor ks w ends)) n),
       )
@@ -195,7 +198,7 @@ resize_does h m x s align n r q g v w free fits =
     let block = hole x r in
     let pass = means_fails (no_span x r h ks align) free in
     let ten = means_fails (no_stretch h block (floor_of h ks) ks q (sound_walk h f ks e)) fits in
-    let d : Gap (x.0 + q) (stretch_end block ks).0 = gap_words (plus x q) (stretch_end block ks) (not-false _ (or_left _ _ ten)) in
+    let d : Gap (x.0 + q) (stretch_end block ks).0 = gap_words (plus x q) (stretch_end block ks) (not-false _ (or_parts _ _ ten).0) in
     let new = resized block q ks in
     let used = h.used - r + q in
     let h' = renewed h new h.top h.pending used in

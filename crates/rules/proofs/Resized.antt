@@ -16,7 +16,8 @@ use Rattle.rules.specs.Free.{touch, joined}
 use Rattle.rules.specs.Resize.{stretch_end, rest_in_front, resized}
 use Rattle.rules.specs.InWords.{Gap}
 use Rattle.rules.specs.Inner.{Fair, Rises, behind}
-use Rattle.rules.proofs.Cases.{cases, by_test}
+use Rattle.std.proofs.lemmas.Bool.{cond_both}
+use Rattle.rules.proofs.Cases.{cases}
 use Rattle.rules.proofs.Gaps.{gap_apart, eights_gap}
 use Rattle.rules.proofs.Walk.{walks, floor_of, walks_head, walks_tail, walks_cons, ends_low}
 use Rattle.rules.proofs.Rises.{rises_le, walks_rises}
@@ -87,7 +88,8 @@ module _ (h : Heap) (top8 : h.top.0 % grain ≡ 0) (g : Hole) (span : Span h g) 
       (unfold stretch_end in d) span.to (unfold walks in span_ends h g top8 span))
   rest_walks lo floor (k ∷ ks) l w c d =
       let q = walks_head h lo k ks w in
-      by_test (λ (js : List Hole). walks h floor js ≡ true) (touch g k) (remains (plus g.addr s) (end k) ++ ks) (remains (plus g.addr s) (end g) ++ (k ∷ ks))
+      cond_both (touch g k) (remains (plus g.addr s) (end k) ++ ks) (remains (plus g.addr s) (end g) ++ (k ∷ ks))
+      (λ (js : List Hole). walks h floor js ≡ true)
       (λ e.
       let t = eqb-true (end g).0 k.addr.0 e in
       remains_walks h floor (plus g.addr s) (end k) ks l (omega (arith, span.at8)) (omega (arith, q.addr8, q.size8))
@@ -108,7 +110,7 @@ module _ (h : Heap) (top8 : h.top.0 % grain ≡ 0) (g : Hole) (span : Span h g) 
   resized_walks floor [] l w c d = rest_walks floor floor [] (omega arith) w tt d
   resized_walks floor (k ∷ ks) l w c d =
       let q = walks_head h floor k ks w in
-      by_test (λ (js : List Hole). walks h floor js ≡ true) (before g.addr k.addr) (rest_in_front g s (k ∷ ks)) (k ∷ resized g s ks)
+      cond_both (before g.addr k.addr) (rest_in_front g s (k ∷ ks)) (k ∷ resized g s ks) (λ (js : List Hole). walks h floor js ≡ true)
       (λ e.
       rest_walks floor floor (k ∷ ks) (omega arith) w (clear_follows g k ks c q.least (ltb-true g.addr.0 k.addr.0 e)) d)
       (λ e.
@@ -161,8 +163,8 @@ module _ {f : Hole → ℕ} (adds : Adds f) (h : Heap) (g : Hole) (s : ℕ) wher
       let own : bytes_to g.addr (end g) ≡ g.size = omega arith in
       omega (arith, rw own at (cut_added (end g) (unfold stretch_end in l)))
   rest_added lo (k ∷ ks) w c l =
-      by_test (λ (js : List Hole). added f js + f (hole g.addr s) ≡ (f k + added f ks) + f g) (touch g k)
-      (remains (plus g.addr s) (end k) ++ ks) (remains (plus g.addr s) (end g) ++ (k ∷ ks))
+      cond_both (touch g k) (remains (plus g.addr s) (end k) ++ ks) (remains (plus g.addr s) (end g) ++ (k ∷ ks))
+      (λ (js : List Hole). added f js + f (hole g.addr s) ≡ (f k + added f ks) + f g)
       (λ e.
       let t = eqb-true (end g).0 k.addr.0 e in
       let both : bytes_to g.addr (end k) ≡ g.size + k.size = omega arith in
@@ -188,8 +190,8 @@ module _ {f : Hole → ℕ} (adds : Adds f) (h : Heap) (g : Hole) (s : ℕ) wher
   resized_added lo [] least w c l = rest_added lo [] w tt l
   resized_added lo (k ∷ ks) least w c l =
       let q = walks_head h lo k ks w in
-      by_test (λ (js : List Hole). added f js + f (hole g.addr s) ≡ (f k + added f ks) + f g) (before g.addr k.addr)
-      (rest_in_front g s (k ∷ ks)) (k ∷ resized g s ks)
+      cond_both (before g.addr k.addr) (rest_in_front g s (k ∷ ks)) (k ∷ resized g s ks)
+      (λ (js : List Hole). added f js + f (hole g.addr s) ≡ (f k + added f ks) + f g)
       (λ e. rest_added lo (k ∷ ks) w (clear_follows g k ks c q.least (ltb-true g.addr.0 k.addr.0 e)) l)
       (λ e.
       let later = stretch_later g k ks (ltb-false g.addr.0 k.addr.0 e) least in

@@ -26,7 +26,7 @@ use Rattle.rules.specs.Runs.{Fits}
 use Rattle.rules.specs.Behaviour.{ours}
 use Rattle.rules.specs.Statements.{SoundKept}
 use Rattle.rules.specs.Inner.{Ruled}
-use Rattle.rules.proofs.Cases.{by_test, or_left}
+use Rattle.std.proofs.lemmas.Bool.{cond_both, or_parts}
 use Rattle.rules.proofs.Layouts.{rounded_multiple, rounded_least, layout_passed}
 use Rattle.rules.proofs.Walk.{sound_ruled, sound_count}
 use Rattle.rules.proofs.SoundWords.{ruled_words}
@@ -54,9 +54,9 @@ pub passed_opened : (len : ℕ) (h : Heap) (ks : List Hole) (ts : List Test) →
     → Stands len h ks × Passes ts
 passed_opened len h ks ts (open', (lent, (numbers, (its, behind)))) = (
   record {
-    ruled = sound_ruled h (not-false (sound_numbers h) (or_left _ _ numbers));
-    sound = not-false (sound_holes h ks) (or_left _ _ its);
-    arena = eqb-true len h.len (not-false (eqb len h.len) (or_left _ _ lent));
+    ruled = sound_ruled h (not-false (sound_numbers h) (or_parts _ _ numbers).0);
+    sound = not-false (sound_holes h ks) (or_parts _ _ its).0;
+    arena = eqb-true len h.len (not-false (eqb len h.len) (or_parts _ _ lent).0);
   },
   behind,
 )
@@ -88,14 +88,14 @@ module _ (len : ℕ) (h : Heap) (ks : List Hole) (st : Stands len h ks) where
   change_keeps (Change.resize x s align n) f p =
       let g = hole x (rounded s) in
       let q = rounded n in
-      let d = gap_words (plus x q) (stretch_end g ks) (not-false (gap (plus x q) (stretch_end g ks)) (or_left _ _ p.1.1.1.0)) in
+      let d = gap_words (plus x q) (stretch_end g ks) (not-false (gap (plus x q) (stretch_end g ks)) (or_parts _ _ p.1.1.1.0).0) in
       renewed_keeps (renewed_ruled h (resized g q ks) (h.used - g.size + q) st.ruled)
       (resize_sound h st.ruled.fair ks g align p.1.1.0 st.sound (rounded_multiple s) (rounded_least s) q (rounded_multiple n) (rounded_least n) d)
   change_keeps (Change.extend by) f p =
-      let l = ltb-false (h.base.0 + h.len) (h.top.0 + h.pending + by) (or_left _ _ p.0) in
+      let l = ltb-false (h.base.0 + h.len) (h.top.0 + h.pending + by) (or_parts _ _ p.0).0 in
       let sum = h.pending + by in
       let s = down_to grain sum in
-      by_test (Keeps len) (ltb sum min_size) _ _
+      cond_both (ltb sum min_size) _ _ (Keeps len)
       (λ e.
       let few : sum ≤ 15 = omega (arith, ltb-true sum min_size e) in
       let fits : h.top.0 + sum ≤ h.base.0 + h.len = omega arith in

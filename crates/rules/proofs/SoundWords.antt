@@ -22,7 +22,8 @@ use Rattle.rules.specs.InWords.{Gap, end_of, sum, SoundNumbers, SoundHole, Sound
 use Rattle.rules.specs.Behaviour.{ours}
 use Rattle.rules.specs.Statements.{SoundMeans}
 use Rattle.rules.specs.Inner.{Fair, Ruled}
-use Rattle.rules.proofs.Cases.{and_left, and_right, both, last, all_each, each_all}
+use Rattle.std.proofs.lemmas.Bool.{and_from, and_parts}
+use Rattle.rules.proofs.Cases.{last, all_each, each_all}
 use Rattle.rules.proofs.Gaps.{gap_words, words_gap}
 use Rattle.rules.proofs.Multiples.{up_is, above_is, down_is, below_is}
 use Rattle.rules.proofs.Powers.{power_pos, grain_power}
@@ -102,10 +103,10 @@ unfolding lie
 lie_words h [] e k m = absurd (Memᴰ.not-nil m)
 lie_words h (j ∷ ks) e k m =
     ⊎_elim
-    (λ q. let r = all_each (hole_rules h j) (and_left (all (hole_rules h j)) (lie h ks) e) in
+    (λ q. let r = all_each (hole_rules h j) (and_parts (all (hole_rules h j)) (lie h ks) e).0 in
     let s : SoundHole h j = omega (arith, leb-true, eqb-true) in
     rw q s)
-    (λ n. lie_words h ks (and_right (all (hole_rules h j)) (lie h ks) e) k n)
+    (λ n. lie_words h ks (and_parts (all (hole_rules h j)) (lie h ks) e).1 k n)
     (Memᴰ.cases_cons m)
 
 words_lie : (h : Heap) (ks : List Hole) → ((k : Hole) → Memᴰ k ks → SoundHole h k) → lie h ks ≡ true
@@ -113,7 +114,7 @@ unfolding lie
 words_lie h [] f = refl
 words_lie h (k ∷ ks) f =
     let s = f k (Memᴰ.head refl) in
-    both (each_all (hole_rules h k) (omega (arith, le-leb, eq-eqb))) (words_lie h ks (λ j m. f j (Memᴰ.tail m)))
+    and_from _ _ (each_all (hole_rules h k) (omega (arith, le-leb, eq-eqb))) (words_lie h ks (λ j m. f j (Memᴰ.tail m)))
 
 -- each hole of a list that rises lies 16 bytes behind the one before it
 abbrev pub Apart : List Hole → Type 0
@@ -122,12 +123,12 @@ Apart ks = (front back : List Hole) (j k : Hole) → ks ≡ front ++ (j ∷ k �
 rise_tail : (k : Hole) (ks : List Hole) → rise (k ∷ ks) ≡ true → rise ks ≡ true
 unfolding rise
 rise_tail k [] e = refl
-rise_tail k (j ∷ js) e = and_right (not_after (plus (end k) min_size) j.addr) (rise (j ∷ js)) e
+rise_tail k (j ∷ js) e = (and_parts (not_after (plus (end k) min_size) j.addr) (rise (j ∷ js)) e).1
 
 rise_at : (front back : List Hole) (j k : Hole) → rise (front ++ (j ∷ k ∷ back)) ≡ true → end_of j + 16 ≤ k.addr.0
 unfolding rise
 rise_at [] back j k e =
-    leb-true (end_of j + 16) k.addr.0 (and_left (not_after (plus (end j) min_size) k.addr) (rise (k ∷ back)) e)
+    leb-true (end_of j + 16) k.addr.0 (and_parts (not_after (plus (end j) min_size) k.addr) (rise (k ∷ back)) e).0
 rise_at (i ∷ front) back j k e = rise_at front back j k (rise_tail i (front ++ (j ∷ k ∷ back)) e)
 
 rise_words : (ks : List Hole) → rise ks ≡ true → Apart ks
@@ -138,7 +139,7 @@ unfolding rise
 words_rise [] f = refl
 words_rise (k ∷ []) f = refl
 words_rise (k ∷ j ∷ js) f =
-    both (le-leb (end_of k + 16) j.addr.0 (f [] js k j refl))
+    and_from _ _ (le-leb (end_of k + 16) j.addr.0 (f [] js k j refl))
     (words_rise (j ∷ js) (λ front back i l q. f (k ∷ front) back i l (ap (λ (xs : List Hole). k ∷ xs) q)))
 
 -- the last hole leaves what the list leaves
@@ -201,13 +202,13 @@ words_holes h ks p =
 pub sound_words : (h : Heap) (ks : List Hole) → sound h ks ≡ true → Sound h ks
 unfolding sound
 sound_words h ks e = (
-  numbers_words h (and_left (sound_numbers h) (sound_holes h ks) e),
-  holes_words h ks (and_right (sound_numbers h) (sound_holes h ks) e),
+  numbers_words h (and_parts (sound_numbers h) (sound_holes h ks) e).0,
+  holes_words h ks (and_parts (sound_numbers h) (sound_holes h ks) e).1,
 )
 
 pub words_sound : (h : Heap) (ks : List Hole) → Sound h ks → sound h ks ≡ true
 unfolding sound
-words_sound h ks p = both (words_numbers h p.0) (words_holes h ks p.1)
+words_sound h ks p = and_from _ _ (words_numbers h p.0) (words_holes h ks p.1)
 
 pub ruled_words : (h : Heap) (ks : List Hole) → Ruled h → sound_holes h ks ≡ true → Sound h ks
 ruled_words h ks r e = (numbers_words h (ruled_sound h r), holes_words h ks e)

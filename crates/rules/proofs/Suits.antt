@@ -17,7 +17,8 @@ use Rattle.rules.specs.Holes.{end}
 use Rattle.rules.specs.Allocate.{candidate, suits, Found, nothing, found, later, find}
 use Rattle.rules.specs.InWords.{Gap, end_of, Lies, RoomAt}
 use Rattle.rules.specs.Inner.{Rises}
-use Rattle.rules.proofs.Cases.{by_eq, by_test, both, apart, some_cases}
+use Rattle.std.proofs.lemmas.Bool.{and_from, cond_both}
+use Rattle.rules.proofs.Cases.{by_eq, apart, some_cases}
 use Rattle.rules.proofs.Multiples.{multiples_apart, multiple_trans, up_is}
 use Rattle.rules.proofs.Powers.{power_pos, eight_or_more}
 use Rattle.rules.proofs.Gaps.{words_gap, gap_le}
@@ -28,7 +29,7 @@ use Rattle.rules.proofs.Used.{find_splits, candidate_gap, candidate_low, suits_f
 pub candidate_multiple : (align : ℕ) (a : Addr) → 0 < align → (candidate align a).0 % align ≡ 0
 unfolding candidate
 candidate_multiple align a pos =
-    by_test (λ (c : Addr). c.0 % align ≡ 0) (multiple_of align a) a (raised align (plus a min_size))
+    cond_both (multiple_of align a) a (raised align (plus a min_size)) (λ (c : Addr). c.0 % align ≡ 0)
     (λ e. eqb-true (a.0 % align) 0 e)
     (λ e. (up_is align (a.0 + min_size) pos).multiple)
 
@@ -43,7 +44,7 @@ large align a p e8 n =
 pub candidate_eight : (align : ℕ) (a : Addr) → Power align → a.0 % grain ≡ 0 → (candidate align a).0 % grain ≡ 0
 unfolding candidate
 candidate_eight align a p e8 =
-    by_test (λ (c : Addr). c.0 % grain ≡ 0) (multiple_of align a) a (raised align (plus a min_size))
+    cond_both (multiple_of align a) a (raised align (plus a min_size)) (λ (c : Addr). c.0 % grain ≡ 0)
     (λ e. e8)
     (λ e.
     multiple_trans grain align (raised align (plus a min_size)).0
@@ -66,7 +67,7 @@ module _ (align : ℕ) (a : Addr) (x : ℕ) (p : Power align) (e8 : a.0 % grain 
   candidate_lowest : Gap a.0 x → Gap (candidate align a).0 x
   unfolding candidate
   candidate_lowest g =
-      by_test (λ (c : Addr). Gap c.0 x) (multiple_of align a) a (raised align (plus a min_size))
+      cond_both (multiple_of align a) a (raised align (plus a min_size)) (λ (c : Addr). Gap c.0 x)
       (λ e. g)
       (λ e. raised_lowest (eqb-false (a.0 % align) 0 e) g)
 
@@ -97,7 +98,7 @@ module _ (r align : ℕ) (k : Hole) where
       let near = candidate_lowest align k.addr x p e8 lies.multiple lies.front in
       let low = gap_le c.0 x near in
       let to = lies.to in (
-        both (le-leb (c.0 + r) (end k).0 (omega arith))
+        and_from _ _ (le-leb (c.0 + r) (end k).0 (omega arith))
             (words_gap (plus c r) (end k) (lower c.0 x near to lies.back)),
         low,
       )
@@ -139,7 +140,7 @@ module _ (r align : ℕ) (p : Power align) where
   find_lowest [] g = λ x m. Memᴰ.not-nil m.1
   find_lowest (k ∷ ks) g =
       let e8 = g k (Memᴰ.head refl) in
-      by_test (Lowest (k ∷ ks)) (suits r align k) (found [] k ks) (later k (find r align ks))
+      cond_both (suits r align k) (found [] k ks) (later k (find r align ks)) (Lowest (k ∷ ks))
       (λ e lo hi s x m.
       some_cases (λ j. Lies r align j x) m
       (λ l. (lies_suits r align k p e8 l).1)

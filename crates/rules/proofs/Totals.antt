@@ -11,7 +11,7 @@ use Rattle.rules.specs.Kinds.{plus, bytes_to, same, before}
 use Rattle.rules.specs.Holes.{hole, end, total}
 use Rattle.rules.specs.Allocate.{candidate, remains, split}
 use Rattle.rules.specs.Free.{touch, joined, in_front, freed}
-use Rattle.rules.proofs.Cases.{by_test}
+use Rattle.std.proofs.lemmas.Bool.{cond_both}
 
 -- the sum of a number of each hole
 unfoldable pub added : (Hole → ℕ) → List Hole → ℕ
@@ -35,7 +35,7 @@ module _ {f : Hole → ℕ} (adds : Adds f) where
   unfolding in_front added
   in_front_added g [] = omega arith
   in_front_added g (k ∷ ks) =
-      by_test (λ (js : List Hole). added f js ≡ (f k + added f ks) + f g) (touch g k) (joined g k ∷ ks) (g ∷ k ∷ ks)
+      cond_both (touch g k) (joined g k ∷ ks) (g ∷ k ∷ ks) (λ (js : List Hole). added f js ≡ (f k + added f ks) + f g)
       (λ e. omega (arith, adds.joins g k (eqb-true (end g).0 k.addr.0 e)))
       (λ e. omega arith)
 
@@ -45,10 +45,10 @@ module _ {f : Hole → ℕ} (adds : Adds f) where
   freed_added g (k ∷ ks) =
       let ih = freed_added g ks in
       let P : List Hole → Type 0 = λ js. added f js ≡ (f k + added f ks) + f g in
-      by_test P (before g.addr k.addr) (in_front g (k ∷ ks)) _
+      cond_both (before g.addr k.addr) (in_front g (k ∷ ks)) _ P
       (λ e. in_front_added g (k ∷ ks))
       (λ e.
-      by_test P (touch k g) (in_front (joined k g) ks) (k ∷ freed g ks)
+      cond_both (touch k g) (in_front (joined k g) ks) (k ∷ freed g ks) P
       (λ t. omega (arith, in_front_added (joined k g) ks, adds.joins k g (eqb-true (end k).0 g.addr.0 t)))
       (λ t. omega arith))
 
@@ -56,7 +56,7 @@ module _ {f : Hole → ℕ} (adds : Adds f) where
   unfolding remains added
   remains_added lo hi =
       let k = hole lo (bytes_to lo hi) in
-      by_test (λ (ks : List Hole). added f ks ≡ f k) (same lo hi) [] (k ∷ [])
+      cond_both (same lo hi) [] (k ∷ []) (λ (ks : List Hole). added f ks ≡ f k)
       (λ e. sym (adds.empty k (omega (arith, eqb-true lo.0 hi.0 e))))
       (λ e. omega arith)
 

@@ -2,6 +2,7 @@
 -- no more than one outcome meets a promise. Assumes nothing.
 use mathlib.Core.Path.{◌≡◌, refl, sym, ◌∙◌}
 use mathlib.Core.List.{List, []}
+use Rattle.std.proofs.Common.{Result}
 use Prim.Native.Nat.{ℕ, min}
 use lib.ListN.{length, take}
 use lib.Seq.{take-nil}
@@ -9,6 +10,7 @@ use Rattle.rules.specs.declared.Hole.{Hole}
 use Rattle.rules.specs.declared.Heap.{Heap}
 use Rattle.rules.specs.declared.Done.{Done}
 use Rattle.rules.specs.declared.Answer.{Answer}
+use Rattle.rules.specs.declared.Refusal.{Refusal}
 use Rattle.rules.specs.Sound.{holes}
 use Rattle.rules.specs.Changes.{Report}
 use Rattle.rules.specs.Calls.{Call, opening, change, report, list, Outcome, accepted}
@@ -27,7 +29,7 @@ unfolding after leaves
 tells_only c h m a ks e = (answer_told c h m a ks e, rw e, rw e)
 
 -- what is handed back is known by its answer and its heap
-done_is : (d : Done) {a : Answer} {h : Heap} → d.answer ≡ a → d.heap ≡ h → d ≡ record { answer = a; heap = h }
+done_is : (d : Done) {a : Result Answer Refusal} {h : Heap} → d.answer ≡ a → d.heap ≡ h → d ≡ record { answer = a; heap = h }
 done_is d p q = rw (← p, ← q)
 
 pub nothing_loose : NothingLoose
@@ -47,7 +49,7 @@ module _ (r : Rows) where
   accepted_stays : (c : Call) (len : ℕ) (h : Heap) (ks : List Hole) → (c ≡ list → ⊥) → Stays (accepted c len h ks)
   unfolding accepted leaves_rows in_rows
   accepted_stays (opening base named) len h ks n = refl
-  accepted_stays (change c) len h ks n = by_change Stays h ks (λ x e. refl) (λ a h' js b p. refl) c len
+  accepted_stays (change c) len h ks n = by_change Stays h ks (λ x e. refl) (λ a h' js b. refl) c len
   accepted_stays (report Report.list) len h ks n = absurd (n refl)
   accepted_stays (report (Report.room align)) len h ks n =
       let k = min (length r.addrs) (length r.sizes) in

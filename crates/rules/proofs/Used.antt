@@ -15,7 +15,7 @@ use Rattle.rules.specs.Sound.{gap}
 use Rattle.rules.specs.Allocate.{candidate, suits, Found, nothing, found, later, find, remains, split}
 use Rattle.rules.specs.InWords.{Gap}
 use Rattle.rules.specs.Inner.{Rises, end_or}
-use Rattle.rules.proofs.Cases.{by_test, and_left, and_right}
+use Rattle.std.proofs.lemmas.Bool.{and_parts, cond_both}
 use Rattle.rules.proofs.Gaps.{gap_words, gap_le, gap_apart}
 use Rattle.rules.proofs.Multiples.{up_is}
 use Rattle.rules.proofs.Rises.{rises_widen, rises_front, rises_back, rises_append}
@@ -37,7 +37,7 @@ find_parts : (s align : ℕ) (ks : List Hole) → Parts s align ks (find s align
 unfolding find
 find_parts s align [] = tt
 find_parts s align (h ∷ hs) =
-    by_test (Parts s align (h ∷ hs)) (suits s align h) (found [] h hs) (later h (find s align hs))
+    cond_both (suits s align h) (found [] h hs) (later h (find s align hs)) (Parts s align (h ∷ hs))
     (λ e. (refl, e))
     (λ e. parts_later s align h hs (find s align hs) (find_parts s align hs))
 
@@ -51,7 +51,7 @@ find_splits s align ks front back k e = rw e at (find_parts s align ks)
 pub candidate_gap : (align : ℕ) (a : Addr) → 0 < align → Gap a.0 (candidate align a).0
 unfolding candidate
 candidate_gap align a pos =
-    by_test (λ (c : Addr). Gap a.0 c.0) (multiple_of align a) a (raised align (plus a min_size))
+    cond_both (multiple_of align a) a (raised align (plus a min_size)) (λ (c : Addr). Gap a.0 c.0)
     (λ e. inl refl)
     (λ e. inr (up_is align (a.0 + min_size) pos).above)
 
@@ -65,13 +65,13 @@ module _ (s align : ℕ) (k : Hole) (suit : suits s align k ≡ true) where
   unfolding suits
   suits_fits =
       leb-true ((candidate align k.addr).0 + s) (end k).0
-      (and_left (not_after (plus (candidate align k.addr) s) (end k)) (gap (plus (candidate align k.addr) s) (end k)) suit)
+      (and_parts (not_after (plus (candidate align k.addr) s) (end k)) (gap (plus (candidate align k.addr) s) (end k)) suit).0
 
   pub suits_gap : Gap ((candidate align k.addr).0 + s) (end k).0
   unfolding suits
   suits_gap =
       gap_words (plus (candidate align k.addr) s) (end k)
-      (and_right (not_after (plus (candidate align k.addr) s) (end k)) (gap (plus (candidate align k.addr) s) (end k)) suit)
+      (and_parts (not_after (plus (candidate align k.addr) s) (end k)) (gap (plus (candidate align k.addr) s) (end k)) suit).1
 
   pub suits_leaves : ((candidate align k.addr).0 + s ≡ (end k).0 → ⊥) → (candidate align k.addr).0 + s + min_size ≤ (end k).0
   suits_leaves = gap_apart ((candidate align k.addr).0 + s) (end k).0 suits_gap
@@ -84,7 +84,7 @@ module _ (s align : ℕ) (k : Hole) (suit : suits s align k ≡ true) where
 pub remains_rises : (lo hi : Addr) → Gap lo.0 hi.0 → Rises lo.0 hi.0 (remains lo hi)
 unfolding remains
 remains_rises lo hi g =
-    by_test (Rises lo.0 hi.0) (same lo hi) [] (hole lo (bytes_to lo hi) ∷ [])
+    cond_both (same lo hi) [] (hole lo (bytes_to lo hi) ∷ []) (Rises lo.0 hi.0)
     (λ e. omega (arith, eqb-true lo.0 hi.0 e))
     (λ e. let w = gap_apart lo.0 hi.0 g (eqb-false lo.0 hi.0 e) in omega arith)
 

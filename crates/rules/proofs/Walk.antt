@@ -18,7 +18,9 @@ use Rattle.rules.specs.Holes.{end, total}
 use Rattle.rules.specs.Sound.{size, number_rules, sound_numbers, gap, hole_rules, lie, rise, leave_before, leave_after, list_rules, sound_holes, most}
 use Rattle.rules.specs.InWords.{Gap}
 use Rattle.rules.specs.Inner.{Fair, Ruled, head_rules, behind, ends}
-use Rattle.rules.proofs.Cases.{cases, iff, by_test, and_left, and_right, both, last, all_each, each_all}
+use Rattle.std.proofs.lemmas.Bool.{and_from, and_parts, cond_both}
+use Rattle.std.specs.Cmp.{both_ways}
+use Rattle.rules.proofs.Cases.{cases, last, all_each, each_all}
 use Rattle.rules.proofs.Gaps.{gap_words, words_gap, gap_le, gap_apart}
 
 -- ---- the rules on the numbers, as numbers
@@ -66,15 +68,15 @@ module _ (h : Heap) (floor : Addr) where
   module _ (k : Hole) (ks : List Hole) where
     pub walks_head : walks h floor (k ∷ ks) ≡ true → Keeps h floor k
     unfolding walks
-    walks_head e = rules_keep h floor k (and_left (all (head_rules h floor k)) (walks h (behind k) ks) e)
+    walks_head e = rules_keep h floor k (and_parts (all (head_rules h floor k)) (walks h (behind k) ks) e).0
 
     pub walks_tail : walks h floor (k ∷ ks) ≡ true → walks h (behind k) ks ≡ true
     unfolding walks
-    walks_tail e = and_right (all (head_rules h floor k)) (walks h (behind k) ks) e
+    walks_tail e = (and_parts (all (head_rules h floor k)) (walks h (behind k) ks) e).1
 
     pub walks_cons : Keeps h floor k → walks h (behind k) ks ≡ true → walks h floor (k ∷ ks) ≡ true
     unfolding walks
-    walks_cons q w = both (keep_rules h floor k q) w
+    walks_cons q w = and_from _ _ (keep_rules h floor k q) w
 
   pub ends_low : floor.0 ≤ h.top.0 → ends h floor ≡ true
   unfolding ends
@@ -96,7 +98,7 @@ module _ (h : Heap) (floor : Addr) where
 
 gap_behind : (h : Heap) (k : Hole) → ends h (behind k) ≡ gap (end k) h.top
 gap_behind h k =
-    iff
+    both_ways _ _
     (λ e. words_gap (end k) h.top (ends_cases h (behind k) e inr (λ q. inl (omega arith))))
     (λ e. ⊎_elim (λ q. ends_top h (behind k) (omega arith)) (ends_low h (behind k)) (gap_words (end k) h.top e))
 
@@ -105,15 +107,15 @@ kept_walks : (h : Heap) (floor : Addr) (k : Hole) (ks : List Hole) → floor.0 �
     → lie h (k ∷ ks) ≡ true → rise (k ∷ ks) ≡ true → leave_after h (k ∷ ks) ≡ true → walks h floor (k ∷ ks) ≡ true
 unfolding lie rise leave_after
 kept_walks h floor k [] f l r a =
-    let q = all_each (hole_rules h k) (and_left _ _ l) in
+    let q = all_each (hole_rules h k) (and_parts _ _ l).0 in
     walks_cons h floor k [] (omega (arith, leb-true, eqb-true)) (unfold walks in gap_behind h k ∙ a)
 kept_walks h floor k (j ∷ js) f l r a =
-    let q = all_each (hole_rules h k) (and_left (all (hole_rules h k)) (lie h (j ∷ js)) l) in
-    let n = leb-true (behind k).0 j.addr.0 (and_left (not_after (behind k) j.addr) (rise (j ∷ js)) r) in
+    let q = all_each (hole_rules h k) (and_parts (all (hole_rules h k)) (lie h (j ∷ js)) l).0 in
+    let n = leb-true (behind k).0 j.addr.0 (and_parts (not_after (behind k) j.addr) (rise (j ∷ js)) r).0 in
     walks_cons h floor k (j ∷ js) (omega (arith, leb-true, eqb-true))
     (kept_walks h (behind k) j js n
-    (and_right (all (hole_rules h k)) (lie h (j ∷ js)) l)
-    (and_right (not_after (behind k) j.addr) (rise (j ∷ js)) r)
+    (and_parts (all (hole_rules h k)) (lie h (j ∷ js)) l).1
+    (and_parts (not_after (behind k) j.addr) (rise (j ∷ js)) r).1
     a)
 
 -- and a list that is walked through keeps them
@@ -130,7 +132,7 @@ walks_kept h floor k [] b w =
     let q = walks_head h floor k [] w in
     record {
       first = q.above;
-      lies = both (each_all (hole_rules h k) (omega (arith, le-leb, eq-eqb))) refl;
+      lies = and_from _ _ (each_all (hole_rules h k) (omega (arith, le-leb, eq-eqb))) refl;
       rises = refl;
       leaves = sym (gap_behind h k) ∙ (unfold walks in walks_tail h floor k [] w);
     }
@@ -139,8 +141,8 @@ walks_kept h floor k (j ∷ js) b w =
     let r = walks_kept h (behind k) j js (omega arith) (walks_tail h floor k (j ∷ js) w) in
     record {
       first = q.above;
-      lies = both (each_all (hole_rules h k) (omega (arith, le-leb, eq-eqb))) r.lies;
-      rises = both (le-leb _ _ r.first) r.rises;
+      lies = and_from _ _ (each_all (hole_rules h k) (omega (arith, le-leb, eq-eqb))) r.lies;
+      rises = and_from _ _ (le-leb _ _ r.first) r.rises;
       leaves = r.leaves;
     }
 
@@ -148,15 +150,15 @@ walks_kept h floor k (j ∷ js) b w =
 pub gap_floor : (h : Heap) (k : Hole) (ks : List Hole) → Gap h.bottom.0 k.addr.0 → (floor_of h (k ∷ ks)).0 ≤ k.addr.0
 unfolding floor_of
 gap_floor h k ks g =
-    by_test (λ (floor : Addr). floor.0 ≤ k.addr.0) (same h.bottom k.addr) h.bottom (plus h.bottom min_size)
+    cond_both (same h.bottom k.addr) h.bottom (plus h.bottom min_size) (λ (floor : Addr). floor.0 ≤ k.addr.0)
     (λ q. gap_le h.bottom.0 k.addr.0 g)
     (λ q. gap_apart h.bottom.0 k.addr.0 g (eqb-false h.bottom.0 k.addr.0 q))
 
 floor_gap : (h : Heap) (k : Hole) (ks : List Hole) → (floor_of h (k ∷ ks)).0 ≤ k.addr.0 → Gap h.bottom.0 k.addr.0
 unfolding floor_of
 floor_gap h k ks =
-    by_test (λ (floor : Addr). floor.0 ≤ k.addr.0 → Gap h.bottom.0 k.addr.0) (same h.bottom k.addr) h.bottom
-    (plus h.bottom min_size)
+    cond_both (same h.bottom k.addr) h.bottom (plus h.bottom min_size)
+    (λ (floor : Addr). floor.0 ≤ k.addr.0 → Gap h.bottom.0 k.addr.0)
     (λ q l. inl (eqb-true h.bottom.0 k.addr.0 q))
     (λ q l. inr l)
 
@@ -164,7 +166,7 @@ floor_gap h k ks =
 by_floor : (P : Addr → Type 0) (h : Heap) (ks : List Hole) → P h.bottom → P (plus h.bottom min_size) → P (floor_of h ks)
 unfolding floor_of
 by_floor P h [] a b = b
-by_floor P h (k ∷ ks) a b = by_test P (same h.bottom k.addr) h.bottom (plus h.bottom min_size) (λ e. a) (λ e. b)
+by_floor P h (k ∷ ks) a b = cond_both (same h.bottom k.addr) h.bottom (plus h.bottom min_size) P (λ e. a) (λ e. b)
 
 pub floor_low : (h : Heap) (ks : List Hole) → h.bottom.0 ≤ (floor_of h ks).0
 floor_low h ks = by_floor (λ floor. h.bottom.0 ≤ floor.0) h ks (omega arith) (omega arith)
@@ -180,30 +182,30 @@ sound_walks h f [] =
     let a : leb (h.bottom.0 + 16) h.top.0 ≡ true = le-leb _ _ f.room in
     cases (eqb (total [] + h.used) (size h)) (λ e. simp (a, e)) (λ e. simp (a, e))
 sound_walks h f (k ∷ ks) =
-    iff
+    both_ways _ _
     (λ e.
     let r = all_each (list_rules h (k ∷ ks)) e in
     let first = gap_floor h k ks (gap_words h.bottom k.addr r.1.1.0) in
-    both (kept_walks h (floor_of h (k ∷ ks)) k ks first r.0 r.1.0 r.1.1.1.0) r.1.1.1.1.0)
+    and_from _ _ (kept_walks h (floor_of h (k ∷ ks)) k ks first r.0 r.1.0 r.1.1.1.0) r.1.1.1.1.0)
     (λ e.
-    let w = and_left (walks h (floor_of h (k ∷ ks)) (k ∷ ks)) _ e in
+    let w = (and_parts (walks h (floor_of h (k ∷ ks)) (k ∷ ks)) _ e).0 in
     let r = walks_kept h (floor_of h (k ∷ ks)) k ks (floor_low h (k ∷ ks)) w in
     let first = words_gap h.bottom k.addr (floor_gap h k ks r.first) in
     each_all (list_rules h (k ∷ ks))
-    (r.lies, (r.rises, (first, (r.leaves, (and_right (walks h (floor_of h (k ∷ ks)) (k ∷ ks)) _ e, tt))))))
+    (r.lies, (r.rises, (first, (r.leaves, ((and_parts (walks h (floor_of h (k ∷ ks)) (k ∷ ks)) _ e).1, tt))))))
 
 module _ (h : Heap) (f : Fair h) (ks : List Hole) where
   pub sound_walk : sound_holes h ks ≡ true → walks h (floor_of h ks) ks ≡ true
   sound_walk e =
-      and_left (walks h (floor_of h ks) ks) (eqb (total ks + h.used) (size h)) (sym (sound_walks h f ks) ∙ e)
+      (and_parts (walks h (floor_of h ks) ks) (eqb (total ks + h.used) (size h)) (sym (sound_walks h f ks) ∙ e)).0
 
   pub sound_sum : sound_holes h ks ≡ true → total ks + h.used ≡ size h
   sound_sum e =
       eqb-true (total ks + h.used) (size h)
-      (and_right (walks h (floor_of h ks) ks) (eqb (total ks + h.used) (size h)) (sym (sound_walks h f ks) ∙ e))
+      (and_parts (walks h (floor_of h ks) ks) (eqb (total ks + h.used) (size h)) (sym (sound_walks h f ks) ∙ e)).1
 
   pub walk_sound : walks h (floor_of h ks) ks ≡ true → total ks + h.used ≡ size h → sound_holes h ks ≡ true
-  walk_sound w e = sound_walks h f ks ∙ both w (eq-eqb (total ks + h.used) (size h) e)
+  walk_sound w e = sound_walks h f ks ∙ and_from _ _ w (eq-eqb (total ks + h.used) (size h) e)
 
 -- ---- how many there are
 

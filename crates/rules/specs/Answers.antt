@@ -1,9 +1,9 @@
 -- The paper's number and two values of each answer. Definitions only.
-use Rattle.std.specs.Prelude.{ℕ}
+use Rattle.std.specs.Prelude.{Result, Ok, Err, ℕ}
 use Rattle.rules.specs.declared.Refusal.{Refusal}
 use Rattle.rules.specs.declared.Refusal.TheVariants.{BadOpening, AlreadyOpened, Unopened, OtherLength, NotSound, BadLayout, NoRoom, BadSpan, PastArena, BadStretch}
 use Rattle.rules.specs.declared.Answer.{Answer}
-use Rattle.rules.specs.declared.Answer.TheVariants.{Opened, Allocated, Freed, Resized, Extended, Listed, Room, Refused}
+use Rattle.rules.specs.declared.Answer.TheVariants.{Opened, Allocated, Freed, Resized, Extended, Listed, Room}
 use Rattle.rules.specs.Kinds.{number}
 
 pub record Numbers : Type 0 where
@@ -28,12 +28,12 @@ refusal_numbers BadSpan = numbers 8 0 0
 refusal_numbers PastArena = numbers 9 0 0
 refusal_numbers BadStretch = numbers 10 0 0
 
-unfoldable pub answer_numbers : Answer → Numbers
-answer_numbers (Opened bottom size) = numbers 0 (number bottom) size
-answer_numbers (Allocated a count) = numbers 0 (number a) count
-answer_numbers (Freed rounded used) = numbers 0 rounded used
-answer_numbers (Resized rounded used) = numbers 0 rounded used
-answer_numbers (Extended size pending) = numbers 0 size pending
-answer_numbers (Listed holes free) = numbers 0 holes free
-answer_numbers (Room largest holes) = numbers 0 largest holes
-answer_numbers (Refused r) = refusal_numbers r
+unfoldable pub answer_numbers : Result Answer Refusal → Numbers
+answer_numbers (Ok (Opened bottom size)) = numbers 0 (number bottom) size
+answer_numbers (Ok (Allocated a count)) = numbers 0 (number a) count
+answer_numbers (Ok (Freed rounded used)) = numbers 0 rounded used
+answer_numbers (Ok (Resized rounded used)) = numbers 0 rounded used
+answer_numbers (Ok (Extended size pending)) = numbers 0 size pending
+answer_numbers (Ok (Listed holes free)) = numbers 0 holes free
+answer_numbers (Ok (Room largest holes)) = numbers 0 largest holes
+answer_numbers (Err r) = refusal_numbers r

@@ -1,9 +1,10 @@
 -- What a box does with what it is lent, as one value: the statements of the demands speak of any such value, and ours is the one that the
 -- definitions make. Definitions only.
-use Rattle.std.specs.Prelude.{◌≡◌, Bool, List, ℕ, length}
+use Rattle.std.specs.Prelude.{◌≡◌, Result, Bool, List, ℕ, length}
 use Rattle.rules.specs.declared.Hole.{Hole}
 use Rattle.rules.specs.declared.Heap.{Heap}
 use Rattle.rules.specs.declared.Answer.{Answer}
+use Rattle.rules.specs.declared.Refusal.{Refusal}
 use Rattle.rules.specs.Sound.{unopened, sound, holes}
 use Rattle.rules.specs.Calls.{Call, Outcome}
 use Rattle.rules.specs.Answers.{Numbers, answer_numbers}
@@ -24,7 +25,7 @@ pub record Behaviour : Type 0 where
   -- what a reader says
   pub reading : Reader → Heap → ℕ
   -- the number of an answer, with its two values
-  pub answer_numbers : Answer → Numbers
+  pub answer_numbers : Result Answer Refusal → Numbers
 
 -- what the definitions say
 abbrev pub ours : Behaviour

@@ -1,6 +1,6 @@
 -- What the contracts below the calls speak of, where document 01 has no sentence of its own: its rules as a walk meets them, head by head, and
 -- what a call comes to once its numbers keep theirs. Definitions only.
-use Rattle.std.specs.Prelude.{◌≡◌, Bool, cond, List, [], ◌∷◌, ℕ, ◌+◌, ◌%◌, ◌≤◌, ◌<◌, leb, eqb, length, get_or}
+use Rattle.std.specs.Prelude.{◌≡◌, ⊤, Result, Ok, Err, Option, Some, None, Bool, cond, List, [], ◌∷◌, ℕ, ◌+◌, ◌%◌, ◌≤◌, ◌<◌, leb, eqb, length, get_or}
 use Rattle.rules.specs.declared.Addr.{Addr}
 use Rattle.rules.specs.declared.Place.{Place}
 use Rattle.rules.specs.declared.Hole.{Hole}
@@ -10,10 +10,9 @@ use Rattle.rules.specs.declared.Writes.{Writes}
 use Rattle.rules.specs.declared.Decided.{Decided}
 use Rattle.rules.specs.declared.Refusal.{Refusal}
 use Rattle.rules.specs.declared.Refusal.TheVariants.{NotSound, BadSpan, PastArena, BadStretch}
-use Rattle.rules.specs.declared.Answer.TheVariants.{Refused}
 use Rattle.rules.specs.Fixed.{min_size, grain, arena_limit, addr_limit}
 use Rattle.rules.specs.Tests.{any}
-use Rattle.rules.specs.Kinds.{plus, same, not_after, multiple_of, place_of, none, is_none}
+use Rattle.rules.specs.Kinds.{plus, same, not_after, multiple_of, place_of, none}
 use Rattle.rules.specs.Holes.{hole, end, put_head, first_of, put_heads}
 use Rattle.rules.specs.Sound.{sound_holes}
 use Rattle.rules.specs.Calls.{Outcome, refused, given, refitted, extended}
@@ -39,15 +38,13 @@ put_heads_to base (k ∷ ks) q m =
 
 -- ---- heads that a call decides to write
 
--- a head written at its place; at none, nothing is
-unfoldable pub put : Write → List ℕ → List ℕ
-put w m = cond (is_none w.at) m (put_head m w.at w.head)
+-- a head written at its place, or none
+unfoldable pub put : Option Write → List ℕ → List ℕ
+put None m = m
+put (Some w) m = put_head m w.at w.head
 
-abbrev pub write : Place → ℕ → Place → Write
-write at size next = record { at = at; head = record { size = size; next = next } }
-
-abbrev pub nothing : Write
-nothing = write none 0 none
+abbrev pub write : Place → ℕ → Place → Option Write
+write at size next = Some (record { at = at; head = record { size = size; next = next } })
 
 -- the one, then the other
 unfoldable pub written : Writes → List ℕ → List ℕ
@@ -57,26 +54,36 @@ written ws m = put ws.two (put ws.one m)
 abbrev pub Inside : List ℕ → Place → Type 0
 Inside m p = (p.0 ≡ none.0 → ⊥) → p.0 + min_size ≤ length m
 
+-- so does a head that is to be written, if one is
+abbrev pub Lands : List ℕ → Option Write → Type 0
+Lands m None = ⊤
+Lands m (Some w) = w.at.0 + min_size ≤ length m
+
 -- writing these heads leaves that arena
 pub record Leaves (m : List ℕ) (ws : Writes) (m' : List ℕ) : Type 0 where
-  pub one : Inside m ws.one.at
-  pub two : Inside m ws.two.at
+  pub one : Lands m ws.one
+  pub two : Lands m ws.two
   pub arena : written ws m ≡ m'
-
--- what a refused call decides
-abbrev pub refusing : Heap → Refusal → Decided
-refusing h r = record { heap = h; answer = Refused r; heads = record { one = nothing; two = nothing } }
 
 -- the list of holes becomes ks: its first place, and the heads to be written
 pub record Relinks (base : Addr) (m : List ℕ) (ks : List Hole) (p : Place) (ws : Writes) : Type 0 where
   pub first : p ≡ first_of base ks
   pub heads : Leaves m ws (put_heads base ks m)
 
--- a decision on the arena m fulfils what the definition says
-pub record Fulfils (a : After) (m : List ℕ) (d : Decided) : Type 0 where
-  pub answer : d.answer ≡ a.answer
-  pub heap : d.heap ≡ a.heap
-  pub heads : Leaves m d.heads a.arena
+-- what is decided on the heap h and the arena m, carried out: a refused call leaves both as they are
+unfoldable pub carried : Heap → List ℕ → Result Decided Refusal → After
+carried h m (Ok d) = record { answer = Ok d.answer; heap = d.heap; arena = written d.heads m }
+carried h m (Err r) = record { answer = Err r; heap = h; arena = m }
+
+-- the heads that it writes, if any, lie in the arena
+abbrev pub Writable : List ℕ → Result Decided Refusal → Type 0
+Writable m (Ok d) = Lands m d.heads.one × Lands m d.heads.two
+Writable m (Err r) = ⊤
+
+-- a decision fulfils what the definition says
+pub record Fulfils (a : After) (h : Heap) (m : List ℕ) (d : Result Decided Refusal) : Type 0 where
+  pub heads : Writable m d
+  pub is : carried h m d ≡ a
 
 -- ---- the rules, as a walk meets them
 

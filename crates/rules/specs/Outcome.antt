@@ -1,10 +1,10 @@
 -- The outcome of any call on any heap and any arena: answer, heap, the entire arena and, for list, the entire rows. Definitions only.
-use Rattle.std.specs.Prelude.{◌≡◌, List, [], ◌∷◌, map, ℕ, min, length, take}
+use Rattle.std.specs.Prelude.{◌≡◌, Result, Ok, Err, List, [], ◌∷◌, map, ℕ, min, length, take}
 use Rattle.rules.specs.declared.Hole.{Hole}
 use Rattle.rules.specs.declared.Heap.{Heap}
 use Rattle.rules.specs.declared.Done.{Done}
 use Rattle.rules.specs.declared.Answer.{Answer}
-use Rattle.rules.specs.declared.Answer.TheVariants.{Refused}
+use Rattle.rules.specs.declared.Refusal.{Refusal}
 use Rattle.rules.specs.Kinds.{number}
 use Rattle.rules.specs.Holes.{put_heads}
 use Rattle.rules.specs.Sound.{holes}
@@ -23,16 +23,16 @@ outcome c h m = decided c (length m) h (holes h m)
 -- ---- and written only as heads of the new list
 
 pub record After : Type 0 where
-  pub answer : Answer
+  pub answer : Result Answer Refusal
   pub heap : Heap
   pub arena : List ℕ
 
 -- a refusal alters neither heap nor memory; after an accepted call each head holds its hole's numbers, and every byte that lies in no
 -- head of the new list is what it was before
 unfoldable pub leaves : Heap → List ℕ → Outcome → After
-leaves h m (refused r) = record { answer = Refused r; heap = h; arena = m }
-leaves h m (told a ks) = record { answer = a; heap = h; arena = m }
-leaves h m (done a h' ks) = record { answer = a; heap = h'; arena = put_heads h'.base ks m }
+leaves h m (refused r) = record { answer = Err r; heap = h; arena = m }
+leaves h m (told a ks) = record { answer = Ok a; heap = h; arena = m }
+leaves h m (done a h' ks) = record { answer = Ok a; heap = h'; arena = put_heads h'.base ks m }
 
 unfoldable pub after : Call → Heap → List ℕ → After
 after c h m = leaves h m (outcome c h m)

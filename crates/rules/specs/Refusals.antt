@@ -1,13 +1,11 @@
 -- When the box says no: each refusal's conditions, and the order in which a call tests them. Definitions only.
-use Rattle.std.specs.Prelude.{List, [], ◌∷◌, ◌++◌, Bool, not, cond, ℕ, ◌-◌, eqb, ltb}
+use Rattle.std.specs.Prelude.{Option, Some, None, List, [], ◌∷◌, ◌++◌, Bool, not, cond, ℕ, ◌-◌, eqb, ltb}
 use Rattle.std.specs.Int.Count.{ones_in}
 use Rattle.rules.specs.declared.Addr.{Addr}
 use Rattle.rules.specs.declared.Hole.{Hole}
 use Rattle.rules.specs.declared.Heap.{Heap}
 use Rattle.rules.specs.declared.Refusal.{Refusal}
 use Rattle.rules.specs.declared.Refusal.TheVariants.{BadOpening, AlreadyOpened, Unopened, OtherLength, NotSound, BadLayout, BadSpan, PastArena, BadStretch}
-use Rattle.rules.specs.declared.Layout.{Layout}
-use Rattle.rules.specs.declared.Layout.TheVariants.{Rounded, Bad}
 use Rattle.rules.specs.Fixed.{arena_limit, addr_limit, min_size, grain, width}
 use Rattle.rules.specs.Tests.{any}
 use Rattle.rules.specs.Kinds.{addr, plus, same, before, multiple_of}
@@ -60,8 +58,8 @@ abbrev pub refusal6 : ℕ → ℕ → List Bool
 refusal6 s align = not (one_power align) ∷ ltb (addr_limit - align) (rounded s) ∷ []
 
 -- the rounded size, or that refusal
-unfoldable pub layout_of : ℕ → ℕ → Layout
-layout_of s align = cond (any (refusal6 s align)) Bad (Rounded (rounded s))
+unfoldable pub layout_of : ℕ → ℕ → Option ℕ
+layout_of s align = cond (any (refusal6 s align)) None (Some (rounded s))
 
 -- address no multiple of 8 or of the alignment; span not inside [bottom, top); span overlaps a hole; or exactly 8 bytes would stay
 -- between the span and a hole, bottom or top

@@ -1,11 +1,11 @@
 -- Runs of calls: on memories, with writes between the calls; and what follows from the calls alone. Definitions only.
-use Rattle.std.specs.Prelude.{◌≡◌, Bool, cond, ℕ, ◌+◌, ◌-◌, ◌^◌, ◌≤◌, ◌<◌, eqb, length, get_or}
+use Rattle.std.specs.Prelude.{◌≡◌, Result, Ok, Err, Bool, cond, ℕ, ◌+◌, ◌-◌, ◌^◌, ◌≤◌, ◌<◌, eqb, length, get_or}
 use mathlib.Core.List.{List, [], ◌∷◌, Memᴰ}
 use Rattle.rules.specs.declared.Addr.{Addr}
 use Rattle.rules.specs.declared.Hole.{Hole}
 use Rattle.rules.specs.declared.Heap.{Heap}
 use Rattle.rules.specs.declared.Answer.{Answer}
-use Rattle.rules.specs.declared.Answer.TheVariants.{Refused}
+use Rattle.rules.specs.declared.Refusal.{Refusal}
 use Rattle.rules.specs.Tests.{all}
 use Rattle.rules.specs.Kinds.{addr, same, number}
 use Rattle.rules.specs.Sound.{unopened, holes}
@@ -49,7 +49,7 @@ AllFit (reads x ∷ asks) = AllFit asks
 
 -- an answer, with the rows as they are then; or a number
 pub data Told : Type 0 where
-  answers : Answer → Rows → Told
+  answers : Result Answer Refusal → Rows → Told
   says : ℕ → Told
 
 -- ---- on memory
@@ -112,7 +112,7 @@ start = record { heap = unopened; holes = []; held = [] }
 -- the blocks held after an accepted call; the first value of allocate's answer is the granted address; a resized block has its new size
 unfoldable pub held_after : Call → Answer → List Block → List Block
 held_after (opening base named) a bs = []
-held_after (change (Change.allocate s align)) a bs = block (addr (answer_numbers a).one) s align ∷ bs
+held_after (change (Change.allocate s align)) a bs = block (addr (answer_numbers (Ok a)).one) s align ∷ bs
 held_after (change (Change.free x s align)) a bs = without (block x s align) bs
 held_after (change (Change.resize x s align n)) a bs = block x n align ∷ without (block x s align) bs
 held_after (change (Change.extend by)) a bs = bs
@@ -127,10 +127,10 @@ box_after c b (refused r) = b
 box_after c b (told a ks) = b
 box_after c b (done a h ks) = record { heap = h; holes = ks; held = held_after c a b.held }
 
-unfoldable pub answer_of : Outcome → Answer
-answer_of (refused r) = Refused r
-answer_of (told a ks) = a
-answer_of (done a h ks) = a
+unfoldable pub answer_of : Outcome → Result Answer Refusal
+answer_of (refused r) = Err r
+answer_of (told a ks) = Ok a
+answer_of (done a h ks) = Ok a
 
 unfoldable pub next_box : Ask → Box → Box
 next_box (calls c r n) b = box_after c b (comes_to c n b)

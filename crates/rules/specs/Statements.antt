@@ -1,6 +1,6 @@
 -- The demands, each as a statement under the user's sentence or the paper's. Those of the calls are of any behaviour b: ours meets them
 -- (proofs/Statements.antt), and two that meet them do the same. Those of runs are of ours. specs/Demands.antt of crate demands gathers them.
-use Rattle.std.specs.Prelude.{◌≡◌, true, cond, ◌⊎◌, ℕ, ◌+◌, ◌-◌, ◌/◌, ◌^◌, ◌≤◌, ◌<◌, min, eqb, length, get_or}
+use Rattle.std.specs.Prelude.{◌≡◌, Result, Ok, Err, true, cond, ◌⊎◌, ℕ, ◌+◌, ◌-◌, ◌/◌, ◌^◌, ◌≤◌, ◌<◌, min, eqb, length, get_or}
 use mathlib.Core.List.{List, [], ◌∷◌, ◌++◌, Memᴰ}
 use Rattle.rules.specs.declared.Addr.{Addr}
 use Rattle.rules.specs.declared.Hole.{Hole}
@@ -9,7 +9,7 @@ use Rattle.rules.specs.declared.Done.{Done}
 use Rattle.rules.specs.declared.Refusal.{Refusal}
 use Rattle.rules.specs.declared.Refusal.TheVariants.{BadOpening, AlreadyOpened, Unopened, OtherLength, NotSound, BadLayout, NoRoom, BadSpan, PastArena, BadStretch}
 use Rattle.rules.specs.declared.Answer.{Answer}
-use Rattle.rules.specs.declared.Answer.TheVariants.{Opened, Allocated, Freed, Resized, Extended, Listed, Room, Refused}
+use Rattle.rules.specs.declared.Answer.TheVariants.{Opened, Allocated, Freed, Resized, Extended, Listed, Room}
 use Rattle.rules.specs.Round.{Below}
 use Rattle.rules.specs.Kinds.{addr, place}
 use Rattle.rules.specs.Holes.{hole}
@@ -107,30 +107,30 @@ RefusalsExactly b = (c : Call) (h : Heap) (m : List ℕ) → Fits c → Decides 
 abbrev pub RefusalsKeep : Behaviour → Type 0
 RefusalsKeep b =
     (c : Call) (h : Heap) (m : List ℕ) (rows : Rows) (r : Refusal) → b.outcome c h m ≡ refused r
-    → ((b.after c h m).answer ≡ Refused r) × ((b.after c h m).heap ≡ h) × ((b.after c h m).arena ≡ m) × (b.rows_after c h m rows ≡ rows)
+    → ((b.after c h m).answer ≡ Err r) × ((b.after c h m).heap ≡ h) × ((b.after c h m).arena ≡ m) × (b.rows_after c h m rows ≡ rows)
 
 -- and carries its number and zeros, 7 its count
 pub record RefusalNumbers (b : Behaviour) : Type 0 where
-  pub one : b.answer_numbers (Refused BadOpening) ≡ numbers 1 0 0
-  pub two : b.answer_numbers (Refused AlreadyOpened) ≡ numbers 2 0 0
-  pub three : b.answer_numbers (Refused Unopened) ≡ numbers 3 0 0
-  pub four : b.answer_numbers (Refused OtherLength) ≡ numbers 4 0 0
-  pub five : b.answer_numbers (Refused NotSound) ≡ numbers 5 0 0
-  pub six : b.answer_numbers (Refused BadLayout) ≡ numbers 6 0 0
-  pub seven : (n : ℕ) → b.answer_numbers (Refused (NoRoom n)) ≡ numbers 7 0 n
-  pub eight : b.answer_numbers (Refused BadSpan) ≡ numbers 8 0 0
-  pub nine : b.answer_numbers (Refused PastArena) ≡ numbers 9 0 0
-  pub ten : b.answer_numbers (Refused BadStretch) ≡ numbers 10 0 0
+  pub one : b.answer_numbers (Err BadOpening) ≡ numbers 1 0 0
+  pub two : b.answer_numbers (Err AlreadyOpened) ≡ numbers 2 0 0
+  pub three : b.answer_numbers (Err Unopened) ≡ numbers 3 0 0
+  pub four : b.answer_numbers (Err OtherLength) ≡ numbers 4 0 0
+  pub five : b.answer_numbers (Err NotSound) ≡ numbers 5 0 0
+  pub six : b.answer_numbers (Err BadLayout) ≡ numbers 6 0 0
+  pub seven : (n : ℕ) → b.answer_numbers (Err (NoRoom n)) ≡ numbers 7 0 n
+  pub eight : b.answer_numbers (Err BadSpan) ≡ numbers 8 0 0
+  pub nine : b.answer_numbers (Err PastArena) ≡ numbers 9 0 0
+  pub ten : b.answer_numbers (Err BadStretch) ≡ numbers 10 0 0
 
 -- an accepted call's number is 0, with its two values
 pub record AnswerNumbers (b : Behaviour) : Type 0 where
-  pub opens : (a : Addr) (n : ℕ) → b.answer_numbers (Opened a n) ≡ numbers 0 a.0 n
-  pub allocates : (a : Addr) (n : ℕ) → b.answer_numbers (Allocated a n) ≡ numbers 0 a.0 n
-  pub frees : (x y : ℕ) → b.answer_numbers (Freed x y) ≡ numbers 0 x y
-  pub resizes : (x y : ℕ) → b.answer_numbers (Resized x y) ≡ numbers 0 x y
-  pub extends : (x y : ℕ) → b.answer_numbers (Extended x y) ≡ numbers 0 x y
-  pub lists : (x y : ℕ) → b.answer_numbers (Listed x y) ≡ numbers 0 x y
-  pub reports : (x y : ℕ) → b.answer_numbers (Room x y) ≡ numbers 0 x y
+  pub opens : (a : Addr) (n : ℕ) → b.answer_numbers (Ok (Opened a n)) ≡ numbers 0 a.0 n
+  pub allocates : (a : Addr) (n : ℕ) → b.answer_numbers (Ok (Allocated a n)) ≡ numbers 0 a.0 n
+  pub frees : (x y : ℕ) → b.answer_numbers (Ok (Freed x y)) ≡ numbers 0 x y
+  pub resizes : (x y : ℕ) → b.answer_numbers (Ok (Resized x y)) ≡ numbers 0 x y
+  pub extends : (x y : ℕ) → b.answer_numbers (Ok (Extended x y)) ≡ numbers 0 x y
+  pub lists : (x y : ℕ) → b.answer_numbers (Ok (Listed x y)) ≡ numbers 0 x y
+  pub reports : (x y : ℕ) → b.answer_numbers (Ok (Room x y)) ≡ numbers 0 x y
 
 -- ---- demand 2: "a request gets the lowest address, a multiple of its alignment, where its rounded size lies in one hole and leaves 0 or
 -- at least 16 bytes on each side; it is refused for room exactly when there is none."
@@ -300,7 +300,7 @@ ReadersDo b =
 abbrev pub Memory : Behaviour → Type 0
 Memory b =
     (c : Call) (h : Heap) (m : List ℕ) (a : Answer) (h' : Heap) (ks : List Hole) → Fits c → b.outcome c h m ≡ done a h' ks
-    → ((b.after c h m).answer ≡ a)
+    → ((b.after c h m).answer ≡ Ok a)
     × ((b.after c h m).heap ≡ h')
     × (length (b.after c h m).arena ≡ length m)
     × (b.holes h' (b.after c h m).arena ≡ ks)
@@ -317,7 +317,7 @@ BytesStay b =
 abbrev pub TellsOnly : Behaviour → Type 0
 TellsOnly b =
     (c : Call) (h : Heap) (m : List ℕ) (a : Answer) (ks : List Hole) → b.outcome c h m ≡ told a ks
-    → ((b.after c h m).answer ≡ a) × ((b.after c h m).heap ≡ h) × ((b.after c h m).arena ≡ m)
+    → ((b.after c h m).answer ≡ Ok a) × ((b.after c h m).heap ≡ h) × ((b.after c h m).arena ≡ m)
 
 -- ---- soundness is kept
 
@@ -363,7 +363,7 @@ pub record Same (b e : Behaviour) : Type 0 where
   pub after : (c : Call) (h : Heap) (m : List ℕ) → Fits c → ((i : ℕ) → get_or m i 0 < 256) → b.after c h m ≡ e.after c h m
   pub rows : (c : Call) (h : Heap) (m : List ℕ) (r : Rows) → b.rows_after c h m r ≡ e.rows_after c h m r
   pub readings : (x : Reader) (h : Heap) → b.reading x h ≡ e.reading x h
-  pub numbers : (a : Answer) → b.answer_numbers a ≡ e.answer_numbers a
+  pub numbers : (a : Result Answer Refusal) → b.answer_numbers a ≡ e.answer_numbers a
 
 abbrev pub Determined : Type 0
 Determined = (b e : Behaviour) → Statements b → Statements e → Same b e
@@ -386,7 +386,7 @@ pub data SameAsks : List Ask → List Ask → Type 0 where
   asks_reader : (x : Reader) {asks₁ asks₂ : List Ask} → SameAsks asks₁ asks₂ → SameAsks (reads x ∷ asks₁) (reads x ∷ asks₂)
 
 -- how many numbers of each row a call writes: list as many as the first value of its answer, while the shorter row lasts; no other call any
-abbrev pub fills : Call → Answer → Rows → ℕ
+abbrev pub fills : Call → Result Answer Refusal → Rows → ℕ
 fills (opening base named) a r = 0
 fills (change c) a r = 0
 fills (report Report.list) a r = min (answer_numbers a).one (min (length r.addrs) (length r.sizes))
@@ -400,7 +400,7 @@ pub record SameRow (n₁ n₂ : ℕ) (lent₁ lent₂ row₁ row₂ : List ℕ) 
   pub rest₁ : (i : ℕ) → n₁ ≤ i → get_or row₁ i 0 ≡ get_or lent₁ i 0
   pub rest₂ : (i : ℕ) → n₂ ≤ i → get_or row₂ i 0 ≡ get_or lent₂ i 0
 
-abbrev pub SameRows : Call → Answer → Rows → Rows → Rows → Rows → Type 0
+abbrev pub SameRows : Call → Result Answer Refusal → Rows → Rows → Rows → Rows → Type 0
 SameRows c a r₁ r₂ s₁ s₂ =
     SameRow (fills c a r₁) (fills c a r₂) r₁.addrs r₂.addrs s₁.addrs s₂.addrs
     × SameRow (fills c a r₁) (fills c a r₂) r₁.sizes r₂.sizes s₁.sizes s₂.sizes
@@ -409,7 +409,7 @@ SameRows c a r₁ r₂ s₁ s₂ =
 pub data SameTold : List Ask → List Ask → List Told → List Told → Type 0 where
   told_end : SameTold [] [] [] []
   told_answer :
-      (c : Call) (r₁ r₂ s₁ s₂ : Rows) (n : ℕ) (a : Answer) {asks₁ asks₂ : List Ask} {ts₁ ts₂ : List Told} → SameRows c a r₁ r₂ s₁ s₂
+      (c : Call) (r₁ r₂ s₁ s₂ : Rows) (n : ℕ) (a : Result Answer Refusal) {asks₁ asks₂ : List Ask} {ts₁ ts₂ : List Told} → SameRows c a r₁ r₂ s₁ s₂
       → SameTold asks₁ asks₂ ts₁ ts₂
       → SameTold (calls c r₁ n ∷ asks₁) (calls c r₂ n ∷ asks₂) (answers a s₁ ∷ ts₁) (answers a s₂ ∷ ts₂)
   told_number :

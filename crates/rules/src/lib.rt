@@ -13,16 +13,17 @@ pub const MIN_SIZE: u64 = 16;
 
 pub const GRAIN: u64 = 8;
 
-// All ones: no place.
-pub const NONE: u64 = 0xffff_ffff_ffff_ffff;
-
 // An address. It and a place are two kinds of number, converted only through the base.
-#[derive(Clone, Copy)]
+#[derive(Clone, Copy, PartialEq, Eq, PartialOrd, Ord)]
 pub struct Addr(pub u64);
 
-// A place in the arena, counted from its start; all ones for none.
-#[derive(Clone, Copy)]
+// A place in the arena, counted from its start; all ones for none, as heads and the heap's numbers hold it,
+// and so no Option.
+#[derive(Clone, Copy, PartialEq, Eq, PartialOrd, Ord)]
 pub struct Place(pub u64);
+
+// All ones: no place.
+pub const NONE: Place = Place(0xffff_ffff_ffff_ffff);
 
 // The first 16 bytes of a hole: its size, and the place of the next head.
 #[derive(Clone, Copy)]
@@ -75,7 +76,7 @@ pub enum Refusal {
     BadStretch,
 }
 
-// What a call answers: two values of its own, or a refusal.
+// What an accepted call answers: two values of its own.
 #[derive(Clone, Copy)]
 pub enum Answer {
     // Open: where the heap begins, and how many bytes it deals out.
@@ -93,25 +94,16 @@ pub enum Answer {
     // Room: the largest rounded size that allocate would grant at the alignment, 0 if none, and how many
     // holes there are.
     Room { largest: u64, holes: u64 },
-    // Any call: the paper's number and why.
-    Refused(Refusal),
 }
 
-// A rounded size, or refusal 6.
-#[derive(Clone, Copy)]
-pub enum Layout {
-    Rounded(u64),
-    Bad,
-}
-
-// What a call that may change the heap gives back: the heap and the answer.
+// What a call that may change the heap gives back: the heap, and the answer or why not.
 #[derive(Clone, Copy)]
 pub struct Done {
     pub heap: Heap,
-    pub answer: Answer,
+    pub answer: Result<Answer, Refusal>,
 }
 
-// A head to be written, and its place; where that is none, nothing is written.
+// A head to be written, and its place.
 #[derive(Clone, Copy)]
 pub struct Write {
     pub at: Place,
@@ -121,12 +113,12 @@ pub struct Write {
 // The heads that change, at most two: first the one is written, then the other.
 #[derive(Clone, Copy)]
 pub struct Writes {
-    pub one: Write,
-    pub two: Write,
+    pub one: Option<Write>,
+    pub two: Option<Write>,
 }
 
-// What a call decides on an arena as it stands: the heap and the answer that it gives back, and the
-// heads to be written.
+// What an accepted call decides on an arena as it stands: the heap and the answer that it gives back,
+// and the heads to be written.
 #[derive(Clone, Copy)]
 pub struct Decided {
     pub heap: Heap,

@@ -1,18 +1,19 @@
--- What comes of hearing bytes: one byte more, and what the code keeps of each. Assumes nothing.
+-- What comes of hearing bytes: a byte, a line, further bytes. Assumes nothing.
 use mathlib.Core.Path.{◌≡◌, refl, sym, ap, ◌∙◌}
-use mathlib.Core.List.{List, [], ◌∷◌, ◌++◌, append_assoc}
-use Prim.Native.Nat.{ℕ, suc, ◌+◌, ◌-◌, ◌≤◌, ◌<◌}
+use mathlib.Core.List.{List, [], ◌∷◌, ◌++◌, append_assoc, append-nil, Memᴰ}
+use Prim.Native.Nat.{ℕ, zero, suc, ◌+◌, ◌-◌, ◌≤◌, ◌<◌}
 use native.Mathlib.Omega.{arith}
-use lib.Dec.{eqb}
-use lib.ListN.{length, take, drop, get_or, set, length-append, length-take, length-drop}
-use lib.Seq.{take_at, take-length, take-add, take-suc, take-suc-set, get_or-drop}
-use borrow.Rule.Slice.PartMut.{put_mid, post_of}
+use lib.ListN.{length, take, drop, get_or, length-append, length-drop}
+use lib.Seq.{split_at, take_all, take_at, take-append-add, take-length}
+use Rattle.std.proofs.lemmas.Bool.{eqb-true}
+use Rattle.memchr.specs.Find.{is_byte}
+use Rattle.std.specs.Prelude.{min, true}
 use borrow.Author.Tests.{lt-ltb, le-ltb, eq-eqb, ne_eqb}
-use Rattle.rules.proofs.Cases.{by_test}
-use Rattle.lines.specs.declared.Replied.{Replied}
-use Rattle.lines.specs.Wire.{replied, Answers}
-use Rattle.talk.specs.declared.Talk.{Talk}
-use Rattle.talk.specs.Hearing.{lf, line_room, Come, come, answered, kept_with, keeping, hearing, heard, taken, part}
+use Rattle.rules.specs.declared.Heap.{Heap}
+use Rattle.rules.proofs.Cases.{by_eq, by_le}
+use Rattle.lines.specs.Wire.{replied}
+use Rattle.talk.specs.Hearing.{lf, line_room, Come, answered, keeping, kept_with, hearing, heard, holding, taken}
+use Rattle.talk.specs.Transcript.{NoEnd, at}
 
 -- ---- any bytes
 
@@ -21,59 +22,12 @@ unfolding heard
 heard_append [] ys c = refl
 heard_append (x ∷ xs) ys c = heard_append xs ys (hearing x c)
 
-pub heard_none : (i : ℕ) (bs : List ℕ) (c : Come) → c ≡ heard (part i i bs) c
-unfolding heard
-heard_none i bs c = let e : i - i ≡ 0 = omega arith in rw e
+-- further bytes
+pub cut_next : (bs front part rest more : List ℕ) → bs ≡ front ++ rest → rest ≡ part ++ more → bs ≡ (front ++ part) ++ more
+cut_next bs front part rest more e f = e ∙ ap (λ (xs : List ℕ). front ++ xs) f ∙ sym (append_assoc front part more)
 
--- ---- answers taken away
-
--- what waits decides nothing that is done
-taken_hearing : (b : ℕ) (c : Come) → taken (hearing b c) ≡ taken (hearing b (taken c))
-unfolding hearing
-taken_hearing b c = by_test (λ (d : Come). taken d ≡ taken (hearing b (taken c))) (eqb b lf) (answered c) (keeping b c)
-    (λ e. rw e)
-    (λ e. rw e)
-
-heard_taken : (bs : List ℕ) (c : Come) → taken (heard bs c) ≡ taken (heard bs (taken c))
-unfolding heard
-heard_taken [] c = refl
-heard_taken (b ∷ bs) c =
-    heard_taken bs (hearing b c)
-    ∙ ap (λ (d : Come). taken (heard bs d)) (taken_hearing b c)
-    ∙ sym (heard_taken bs (hearing b (taken c)))
-
-part_join : (i j : ℕ) (bs : List ℕ) → i ≤ j → part 0 i bs ++ part i j bs ≡ part 0 j bs
-part_join i j bs l =
-    let e : i - 0 ≡ i = omega arith in
-    let f : j - 0 ≡ i + (j - i) = omega arith in
-    rw (e, f) (sym (take-add i (j - i) bs))
-
--- the bytes so far, the answers taken away, and further bytes come to all of them
-pub taken_on : (i j : ℕ) (bs : List ℕ) (c₀ c c' : Come) → i ≤ j → taken c ≡ taken (heard (part 0 i bs) c₀) → c' ≡ heard (part i j bs) c
-    → taken c' ≡ taken (heard (part 0 j bs) c₀)
-taken_on i j bs c₀ c c' l t e =
-    ap (λ (d : Come). taken d) e
-    ∙ heard_taken (part i j bs) c
-    ∙ ap (λ (d : Come). taken (heard (part i j bs) d)) t
-    ∙ sym (heard_taken (part i j bs) (heard (part 0 i bs) c₀))
-    ∙ ap (λ (d : Come). taken d) (sym (heard_append (part 0 i bs) (part i j bs) c₀))
-    ∙ ap (λ (xs : List ℕ). taken (heard xs c₀)) (part_join i j bs l)
-
-pub part_whole : (bs : List ℕ) (i : ℕ) → i ≡ length bs → part 0 i bs ≡ bs
-part_whole bs i e = let f : i - 0 ≡ length bs = omega arith in rw f (take-length bs)
-
--- ---- from byte to byte
-
-pub heard_next : (at i : ℕ) (bs : List ℕ) (c : Come) → at ≤ i → i < length bs
-    → heard (part at (i + 1) bs) c ≡ hearing (get_or bs i 0) (heard (part at i bs) c)
-unfolding heard
-heard_next at i bs c l h =
-    let n : i + 1 - at ≡ suc (i - at) = omega arith in
-    let k : i - at < length (drop at bs) = simp length-drop (omega arith) in
-    let a : at + (i - at) ≡ i = omega arith in
-    let s : part at (i + 1) bs ≡ part at i bs ++ (get_or bs i 0 ∷ []) =
-    rw n (take-suc (drop at bs) (i - at) 0 k ∙ ap (λ (b : ℕ). part at i bs ++ (b ∷ [])) (get_or-drop at bs (i - at) 0 ∙ ap (λ (j : ℕ). get_or bs j 0) a)) in
-    ap (λ (xs : List ℕ). heard xs c) s ∙ heard_append (part at i bs) (get_or bs i 0 ∷ []) c
+pub heard_next : (front part : List ℕ) (c₀ c c' : Come) → c ≡ heard front c₀ → c' ≡ heard part c → c' ≡ heard (front ++ part) c₀
+heard_next front part c₀ c c' e f = f ∙ ap (heard part) e ∙ sym (heard_append front part c₀)
 
 -- ---- one byte
 
@@ -85,47 +39,103 @@ pub hearing_other : (b : ℕ) (c : Come) → (b ≡ lf → ⊥) → hearing b c 
 unfolding hearing
 hearing_other b c n = rw (ne_eqb b lf n)
 
--- a byte is kept behind those that are
-pub kept_more : (b n : ℕ) (line : List ℕ) → n < line_room → n < length line → take (n + 1) (set line n b) ≡ kept_with b (take n line)
-kept_more b n line l h =
-    let e : n + 1 ≡ suc n = omega arith in
-    let k : length (take n line) ≡ n = simp length-take (omega arith) in
-    rw (e, lt-ltb (length (take n line)) line_room (omega arith)) (take-suc-set line n b h)
+-- ---- the bytes of a line
 
--- or there is no room for it
-pub kept_full : (b n : ℕ) (line : List ℕ) → line_room ≤ n → n ≤ length line → take n line ≡ kept_with b (take n line)
-kept_full b n line l h =
-    let k : length (take n line) ≡ n = simp length-take (omega arith) in
-    rw (le-ltb (length (take n line)) line_room (omega arith))
+-- one byte more, behind any bytes of which as many are kept as there is room for
+kept_on : (b : ℕ) (k bs : List ℕ) → length k ≤ line_room → take 67 (kept_with b k ++ bs) ≡ take 67 (k ++ (b ∷ bs))
+kept_on b k bs l =
+    by_le line_room (length k)
+    (λ h.
+    let f : kept_with b k ≡ k = rw (le-ltb (length k) line_room h) in
+    rw f (take_at k bs 67 (omega arith) ∙ sym (take_at k (b ∷ bs) 67 (omega arith))))
+    (λ h.
+    let f : kept_with b k ≡ k ++ (b ∷ []) = rw (lt-ltb (length k) line_room h) in
+    rw f (ap (take 67) (append_assoc k (b ∷ []) bs)))
 
--- ---- answers
+kept_room : (b : ℕ) (k : List ℕ) → length k ≤ line_room → length (kept_with b k) ≤ line_room
+kept_room b k l =
+    by_le line_room (length k)
+    (λ h. rw (le-ltb (length k) line_room h) l)
+    (λ h. rw (lt-ltb (length k) line_room h) (simp length-append (omega arith)))
 
--- what is copied stands behind the answers that wait
-pub copied : (at n k : ℕ) (w r ys dst : List ℕ) → at ≤ length w → n ≤ length r
-    → ys ≡ take (length (take (n - 0) r)) (take (n - 0) r) ++ drop (length (take (n - 0) r)) dst
-    → take (at + n) (put_mid at k w ys) ≡ take at w ++ take n r
-copied at n k w r ys dst l h e =
-    let z : n - 0 ≡ n = omega arith in
-    let p : length (take n r) ≡ n = simp length-take (omega arith) in
-    let f : length (take at w ++ take n r) ≡ at + n = simp (length-append, length-take) (omega arith) in
-    let q : List ℕ = drop (length (take n r)) dst in
-    let g : ys ≡ take n r ++ q = (rw z at e) ∙ ap (λ (x : List ℕ). x ++ q) (take-length (take n r)) in
-    ap (λ (x : List ℕ). take (at + n) (take at w ++ (x ++ post_of at k w))) g
-    ∙ ap (take (at + n)) (ap (λ (x : List ℕ). take at w ++ x) (append_assoc (take n r) q (post_of at k w)) ∙ sym (append_assoc (take at w) (take n r) (q ++ post_of at k w)))
-    ∙ take_at (take at w ++ take n r) (q ++ post_of at k w) (at + n) f
+pub keeps : (bs k : List ℕ) (h : Heap) (m waits : List ℕ) → NoEnd bs → length k ≤ line_room
+    → heard bs (at h m k waits) ≡ at h m (take 67 (k ++ bs)) waits
+unfolding heard
+keeps [] k h m waits n l = rw (append-nil k, take_all 67 k l)
+keeps (b ∷ bs) k h m waits n l =
+    ap (heard bs) (hearing_other b (at h m k waits) (n b (Memᴰ.head refl)))
+    ∙ keeps bs (kept_with b k) h m waits (λ c i. n c (Memᴰ.tail i)) (kept_room b k l)
+    ∙ ap (λ (ks : List ℕ). at h m ks waits) (kept_on b k bs l)
 
--- an answered line, as the code leaves it: its answer stands behind those that wait, and nothing is kept
-pub answered_by : (t : Talk) (arena line waiting : List ℕ) (r : Replied) (arena' waiting' out : List ℕ)
-    → Answers (replied (take (t.kept - 0) line) t.heap arena) r out arena'
-    → take (t.waits + r.len) waiting' ≡ take t.waits waiting ++ take r.len out
-    → come record { heap = r.heap; kept = 0; waits = t.waits + r.len } arena' line waiting' ≡ answered (come t arena line waiting)
-answered_by t arena line waiting r arena' waiting' out a w =
-    let z : t.kept - 0 ≡ t.kept = omega arith in
-    let b : Answers (replied (take t.kept line) t.heap arena) r out arena' = rw z at a in
-    rw (w, b.0, b.1, b.2)
+-- bytes in which no line ends
+pub heard_part : (bs : List ℕ) (c : Come) → NoEnd bs → length c.kept ≤ line_room → heard bs c ≡ holding bs c
+heard_part bs c n l = keeps bs c.kept c.heap c.arena c.waits n l
 
--- a kept byte, as the code leaves it
-pub kept_by : (b : ℕ) (t t' : Talk) (arena line line' waiting : List ℕ) → t'.heap ≡ t.heap → t'.waits ≡ t.waits
-    → take t'.kept line' ≡ kept_with b (take t.kept line)
-    → come t' arena line' waiting ≡ keeping b (come t arena line waiting)
-kept_by b t t' arena line line' waiting h w k = rw (h, w, k)
+-- a line, and the LF that ends it
+pub heard_line : (bs : List ℕ) (c : Come) → NoEnd bs → length c.kept ≤ line_room → heard (bs ++ (lf ∷ [])) c ≡ answered (holding bs c)
+unfolding heard
+heard_line bs c n l =
+    heard_append bs (lf ∷ []) c ∙ ap (heard (lf ∷ [])) (heard_part bs c n l) ∙ hearing_lf lf (holding bs c) refl
+
+-- the bytes before the first LF, and what is behind it
+pub no_end : (bs : List ℕ) (n : ℕ) → ((k : ℕ) → 0 ≤ k → k < n → ¬ (is_byte lf (get_or bs k 0) ≡ true)) → NoEnd (take n bs)
+no_end bs zero h b m e = elim m [ ]
+no_end [] (suc n) h b m e = elim m [ ]
+no_end (x ∷ bs) (suc n) h b (Memᴰ.head p) e = h 0 (omega arith) (omega arith) (eq-eqb x lf (sym p ∙ e))
+no_end (x ∷ bs) (suc n) h b (Memᴰ.tail i) e = no_end bs n (λ k z l. h (suc k) (omega arith) (omega (arith, l))) b i e
+
+pub none_ends : (bs : List ℕ) → ((k : ℕ) → 0 ≤ k → k < length bs → ¬ (is_byte lf (get_or bs k 0) ≡ true)) → NoEnd bs
+none_ends bs h = let n = no_end bs (length bs) h in rw (take-length bs) at n
+
+pub cut_at : (bs : List ℕ) (n : ℕ) → n < length bs → is_byte lf (get_or bs n 0) ≡ true
+    → bs ≡ take n bs ++ (lf ∷ take (length bs - (n + 1)) (drop (n + 1) bs))
+cut_at bs n l t =
+    let d : take (length bs - (n + 1)) (drop (n + 1) bs) ≡ drop (n + 1) bs = take_all _ (drop (n + 1) bs) (simp length-drop (omega arith)) in
+    let s : n + 1 ≡ suc n = omega arith in
+    let e : get_or bs n 0 ≡ lf = eqb-true (get_or bs n 0) lf t in
+    rw (d, s, sym e) (split_at bs n 0 l)
+
+-- what is kept of further bytes
+pub held : (n : ℕ) (kept part : List ℕ) → length kept + n ≡ line_room → kept ++ take (min (length part) n) part ≡ take line_room (kept ++ part)
+held n kept part e =
+    by_le n (length part)
+    (λ l.
+    let m : min (length part) n ≡ n = omega arith in
+    rw (m, sym e) (sym (take-append-add kept part n)))
+    (λ l.
+    let m : min (length part) n ≡ length part = omega arith in
+    rw (m, take-length part) (sym (take_all line_room (kept ++ part) (simp length-append (omega arith)))))
+
+-- ---- answers taken away
+
+-- answers before those that wait
+abbrev pub before : List ℕ → Come → Come
+before ws c = record { heap = c.heap; arena = c.arena; kept = c.kept; waits = ws ++ c.waits }
+
+-- what waits decides nothing that is done
+hearing_before : (ws : List ℕ) (b : ℕ) (c : Come) → hearing b (before ws c) ≡ before ws (hearing b c)
+hearing_before ws b c =
+    by_eq b lf
+    (λ e.
+    let r = replied c.kept c.heap c.arena in
+    let all : answered (before ws c) ≡ before ws (answered c) =
+    ap (λ (w : List ℕ). record { heap = r.heap; arena = r.arena; kept = []; waits = w }) (append_assoc ws c.waits r.printed) in
+    hearing_lf b (before ws c) e ∙ all ∙ ap (before ws) (sym (hearing_lf b c e)))
+    (λ n. rw (hearing_other b c n, hearing_other b (before ws c) n))
+
+heard_before : (ws bs : List ℕ) (c : Come) → heard bs (before ws c) ≡ before ws (heard bs c)
+unfolding heard
+heard_before ws [] c = refl
+heard_before ws (b ∷ bs) c = ap (heard bs) (hearing_before ws b c) ∙ heard_before ws bs (hearing b c)
+
+-- bytes, and further bytes once the answers were taken away, come to all of them, but for the answers that were taken
+pub heard_taken : (xs ys : List ℕ) (c₀ c c' : Come) → c ≡ taken (heard xs c₀) → c' ≡ heard ys c
+    → heard (xs ++ ys) c₀ ≡ before (heard xs c₀).waits c'
+heard_taken xs ys c₀ c c' t e =
+    let d = heard xs c₀ in
+    let whole : d ≡ before d.waits (taken d) = rw (append-nil d.waits) in
+    heard_append xs ys c₀
+    ∙ ap (heard ys) whole
+    ∙ heard_before d.waits ys (taken d)
+    ∙ ap (λ (x : Come). before d.waits (heard ys x)) (sym t)
+    ∙ ap (before d.waits) (sym e)

@@ -1,19 +1,18 @@
 -- Hearing bytes comes to the transcript of their lines. Assumes nothing.
 use mathlib.Core.Path.{◌≡◌, refl, sym, ap, ◌∙◌}
 use mathlib.Core.List.{List, [], ◌∷◌, ◌++◌, append-nil, append_assoc, Memᴰ}
-use Prim.Native.Nat.{ℕ, ◌≤◌}
+use Prim.Native.Nat.{ℕ}
 use native.Mathlib.Omega.{arith}
-use lib.ListN.{length, take, length-append, length-take}
-use lib.Seq.{take_all, take_at}
-use borrow.Author.Tests.{lt-ltb, le-ltb}
+use lib.ListN.{length, take, length-take}
+use lib.Seq.{take_all}
 use Rattle.rules.specs.declared.Heap.{Heap}
 use Rattle.rules.proofs.Cases.{by_eq, by_le}
 use Rattle.lines.specs.Frames.{frame_of}
 use Rattle.lines.specs.Wire.{reply, replied}
 use Rattle.lines.proofs.Frames.{line_longer}
-use Rattle.talk.specs.Hearing.{lf, line_room, Come, kept_with, hearing, heard}
+use Rattle.talk.specs.Hearing.{lf, Come, hearing, heard}
 use Rattle.talk.specs.Transcript.{NoEnd, sent, Transcript, at, Talks}
-use Rattle.talk.proofs.Hearing.{heard_append, hearing_lf, hearing_other}
+use Rattle.talk.proofs.Hearing.{heard_append, hearing_lf, hearing_other, keeps}
 
 -- ---- a long line
 
@@ -24,34 +23,6 @@ long l =
     (λ h.
     let k : length (take 67 l) ≡ 67 = simp length-take (omega arith) in
     line_longer (take 67 l) (omega arith) ∙ sym (line_longer l (omega arith)))
-
--- ---- the bytes of a line
-
--- one byte more, behind any bytes of which as many are kept as there is room for
-kept_on : (b : ℕ) (k bs : List ℕ) → length k ≤ line_room → take 67 (kept_with b k ++ bs) ≡ take 67 (k ++ (b ∷ bs))
-kept_on b k bs l =
-    by_le line_room (length k)
-    (λ h.
-    let f : kept_with b k ≡ k = rw (le-ltb (length k) line_room h) in
-    rw f (take_at k bs 67 (omega arith) ∙ sym (take_at k (b ∷ bs) 67 (omega arith))))
-    (λ h.
-    let f : kept_with b k ≡ k ++ (b ∷ []) = rw (lt-ltb (length k) line_room h) in
-    rw f (ap (take 67) (append_assoc k (b ∷ []) bs)))
-
-kept_room : (b : ℕ) (k : List ℕ) → length k ≤ line_room → length (kept_with b k) ≤ line_room
-kept_room b k l =
-    by_le line_room (length k)
-    (λ h. rw (le-ltb (length k) line_room h) l)
-    (λ h. rw (lt-ltb (length k) line_room h) (simp length-append (omega arith)))
-
-keeps : (bs k : List ℕ) (h : Heap) (m waits : List ℕ) → NoEnd bs → length k ≤ line_room
-    → heard bs (at h m k waits) ≡ at h m (take 67 (k ++ bs)) waits
-unfolding heard
-keeps [] k h m waits n l = rw (append-nil k, take_all 67 k l)
-keeps (b ∷ bs) k h m waits n l =
-    ap (heard bs) (hearing_other b (at h m k waits) (n b (Memᴰ.head refl)))
-    ∙ keeps bs (kept_with b k) h m waits (λ c i. n c (Memᴰ.tail i)) (kept_room b k l)
-    ∙ ap (λ (ks : List ℕ). at h m ks waits) (kept_on b k bs l)
 
 -- ---- lines
 

@@ -1,10 +1,9 @@
 -- A talk over the wire: what comes of hearing bytes, one after the other. Definitions only.
-use Rattle.std.specs.Prelude.{◌≡◌, ◌⊎◌, cond, List, [], ◌∷◌, ◌++◌, ℕ, ◌+◌, ◌-◌, ◌*◌, ◌≤◌, ◌<◌, eqb, ltb, length, take, drop}
+use Rattle.std.specs.Prelude.{◌≡◌, ◌⊎◌, cond, List, [], ◌∷◌, ◌++◌, ℕ, ◌+◌, ◌*◌, ◌≤◌, ◌<◌, eqb, ltb, length, take}
 use Rattle.rules.specs.declared.Heap.{Heap}
 use Rattle.lines.specs.Frames.{frame_digits, most_numbers}
 use Rattle.lines.specs.Wire.{Reply, replied, longest}
 use Rattle.talk.specs.declared.Talk.{Talk}
-use Rattle.talk.specs.declared.Heard.{Heard}
 
 -- LF ends a line
 abbrev pub lf : ℕ
@@ -24,9 +23,8 @@ pub record Come : Type 0 where
   pub kept : List ℕ
   pub waits : List ℕ
 
-abbrev pub come : Talk → List ℕ → List ℕ → List ℕ → Come
-come t arena line waiting =
-    record { heap = t.heap; arena = arena; kept = take t.kept line; waits = take t.waits waiting }
+abbrev pub come : Talk → Come
+come t = record { heap = t.heap; arena = t.arena; kept = t.kept.items; waits = t.waits.items }
 
 -- ---- one byte
 
@@ -49,6 +47,10 @@ hearing b c = cond (eqb b lf) (answered c) (keeping b c)
 
 -- ---- any bytes
 
+-- further bytes of a line are kept, where there is room for them
+abbrev pub holding : List ℕ → Come → Come
+holding bytes c = record { heap = c.heap; arena = c.arena; kept = take line_room (c.kept ++ bytes); waits = c.waits }
+
 unfoldable pub heard : List ℕ → Come → Come
 heard [] c = c
 heard (b ∷ bs) c = heard bs (hearing b c)
@@ -57,21 +59,17 @@ heard (b ∷ bs) c = heard bs (hearing b c)
 abbrev pub taken : Come → Come
 taken c = record { heap = c.heap; arena = c.arena; kept = c.kept; waits = [] }
 
--- the bytes from one index up to another
-abbrev pub part : ℕ → ℕ → List ℕ → List ℕ
-part from to bs = take (to - from) (drop from bs)
-
 -- ---- what the code keeps to
 
 -- behind the answers that wait there is room for the longest
 abbrev pub Bounded : Talk → Type 0
-Bounded t = (t.kept ≤ line_room) × (t.waits ≤ longest)
+Bounded t = length t.waits.items ≤ longest
 
--- the bytes up to where it says are heard, no more and no less: all of them, or so many that one more answer might not find room
-pub record Hears (bs : List ℕ) (at : ℕ) (c : Come) (r : Heard) (c' : Come) : Type 0 where
-  pub from : at ≤ r.to
-  pub to : r.to ≤ length bs
-  pub comes : c' ≡ heard (part at r.to bs) c
-  pub kept : r.talk.kept ≤ line_room
-  pub waits : r.talk.waits ≤ answers_room
-  pub stops : (r.to ≡ length bs) ⊎ ((at < r.to) × (longest < r.talk.waits))
+-- the bytes before those that are left are heard, no more and no less: all of them, or so many that one more answer might not find room
+pub record Hears (bs : List ℕ) (c : Come) (rest : List ℕ) (c' : Come) : Type 0 where
+  pub front : List ℕ
+  pub cut : bs ≡ front ++ rest
+  pub comes : c' ≡ heard front c
+  pub kept : length c'.kept ≤ line_room
+  pub waits : length c'.waits ≤ answers_room
+  pub stops : (rest ≡ []) ⊎ ((0 < length front) × (longest < length c'.waits))

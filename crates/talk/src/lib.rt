@@ -2,11 +2,14 @@
 // answers wait behind each other until they are written. Reading and writing themselves are the caller's.
 #![tactic(auto)]
 
-ghost use Rattle.std.specs.Prelude.{◌≡◌, ◌++◌, ◌+◌, ◌≤◌, length, take};
-ghost use Rattle.lines.specs.Wire.{longest};
-ghost use Rattle.talk.specs.Hearing.{line_room, answers_room, come, answered, kept_with, Bounded, Hears};
+ghost use Rattle.std.specs.Prelude.{◌≡◌, ◌≤◌, [], ◌∷◌, ◌++◌, length, replicate, MatchOption};
+ghost use Rattle.lines.specs.Wire.{arena_bytes};
+ghost use Rattle.talk.specs.Hearing.{lf, line_room, answers_room, come, answered, holding, Bounded, Hears};
+ghost use Rattle.talk.specs.Transcript.{NoEnd};
 
+use arrayvec::ArrayVec;
 use lines::{ARENA, FRAME, LONGEST, answer_line};
+use memchr::memchr;
 use rules::Heap;
 
 const LF: u8 = 10;
@@ -18,91 +21,83 @@ pub const KEPT: usize = FRAME + 1;
 // The bytes for answers that wait: the longest twice.
 pub const WAITING: usize = 2 * LONGEST;
 
-// The heap, how many bytes are kept of the line that has not ended, and how many bytes of answers wait.
-#[derive(Clone, Copy)]
+// The box, what is kept of the line that has not ended, and the answers that wait. `reply` is where an
+// answer is printed before it waits; what it holds between two lines means nothing.
+#[derive(Drop)]
 pub struct Talk {
     pub heap: Heap,
-    pub kept: usize,
-    pub waits: usize,
+    pub arena: [u8; ARENA],
+    pub kept: ArrayVec<u8, KEPT>,
+    pub waits: ArrayVec<u8, WAITING>,
+    pub reply: [u8; LONGEST],
 }
 
-// A talk, and up to where it has heard.
-#[derive(Clone, Copy)]
-pub struct Heard {
-    pub talk: Talk,
-    pub to: usize,
-}
-
-// Puts the first `n` bytes of an answer behind the `at` that wait.
-fn append(waiting: &mut [u8], at: usize, reply: &[u8], n: usize)
-    requires { (at ≤ longest) × (n ≤ longest) × (length waiting.old ≡ answers_room) × (length reply.now ≡ longest) }
-    ensures { take (at + n) waiting.new ≡ take at waiting.old ++ take n reply.now }
-{
-    waiting[at..at + n].copy_from_slice(&reply[0..n]);
-}
-
-// Answers the line that is kept, as one that has ended.
-pub fn answer(
-    t: Talk,
-    arena: &mut [u8; ARENA],
-    line: &[u8; KEPT],
-    reply: &mut [u8; LONGEST],
-    waiting: &mut [u8; WAITING],
-) -> Talk
-    requires { Bounded t }
-    ensures { (come result arena.new line.now waiting.new ≡ answered (come t arena.old line.now waiting.old)) × (result.kept ≡ 0) × (result.waits ≤ answers_room) }
-{
-    let h = t.heap;
-    let n = t.kept;
-    let all: &[u8] = line;
-    let replied = answer_line(h, arena, &all[0..n], reply);
-    let at = t.waits;
-    append(waiting, at, reply, replied.len);
-    let heap = replied.heap;
-    Talk {
-        heap,
-        kept: 0,
-        waits: at + replied.len,
-    }
-}
-
-// Keeps one more byte of a line, where there is room for it.
-fn keep(t: Talk, line: &mut [u8], b: u8) -> Talk
-    requires { (t.kept ≤ line_room) × (length line.old ≡ line_room) }
-    ensures { (result.heap ≡ t.heap) × (result.waits ≡ t.waits) × (result.kept ≤ line_room) × (take result.kept line.new ≡ kept_with b (take t.kept line.old)) }
-{
-    let n = t.kept;
-    if KEPT <= n {
-        return t;
-    }
-    line[n] = b;
-    Talk { kept: n + 1, ..t }
-}
-
-// Hears bytes from an index on: each LF ends a line, which is answered. It stops where one more answer
-// might not find room behind those that wait, or with the bytes.
-pub fn hear(
-    first: Talk,
-    bytes: &[u8],
-    from: usize,
-    arena: &mut [u8; ARENA],
-    line: &mut [u8; KEPT],
-    reply: &mut [u8; LONGEST],
-    waiting: &mut [u8; WAITING],
-) -> Heard
-    requires { (from ≤ length bytes.now) × Bounded first }
-    ensures { Hears bytes.now from (come first arena.old line.old waiting.old) result (come result.talk arena.new line.new waiting.new) }
-{
-    let mut t = first;
-    let mut at = from;
-    while at < bytes.len() && t.waits <= LONGEST {
-        let b = bytes[at];
-        at += 1;
-        if b == LF {
-            t = answer(t, arena, line, reply, waiting);
-        } else {
-            t = keep(t, line, b);
+impl Talk {
+    // A talk that begins: the heap as given, a zeroed arena, and nothing heard.
+    pub fn new(heap: Heap) -> Self
+        ensures heap { result.heap ≡ heap }
+        ensures arena { result.arena ≡ replicate arena_bytes 0 }
+        ensures kept { result.kept.items ≡ [] }
+        ensures waits { result.waits.items ≡ [] }
+    {
+        Talk {
+            heap,
+            arena: [0; ARENA],
+            kept: ArrayVec::new(),
+            waits: ArrayVec::new(),
+            reply: [0; LONGEST],
         }
     }
-    Heard { talk: t, to: at }
+
+    // Answers the line that is kept, as one that has ended.
+    pub fn answer(&mut self)
+        requires { Bounded self.old }
+        ensures answered { come self.new ≡ answered (come self.old) }
+        ensures fits { length self.new.waits.items ≤ answers_room }
+    {
+        let replied = answer_line(self.heap, &mut self.arena, &self.kept, &mut self.reply);
+        self.heap = replied.heap;
+        self.kept.clear();
+        self.waits
+            .try_extend_from_slice(&self.reply[..replied.len])
+            .unwrap();
+    }
+
+    // Keeps more bytes of a line, as far as there is room for them.
+    fn keep(&mut self, part: &[u8])
+        ensures had { length self.old.kept.items ≤ line_room }
+        ensures has { length self.new.kept.items ≤ line_room }
+        ensures kept { come self.new ≡ holding part.now (come self.old) }
+    {
+        let room = self.kept.remaining_capacity();
+        let n = part.len().min(room);
+        self.kept.try_extend_from_slice(&part[..n]).unwrap();
+    }
+
+    // Hears bytes, and gives those that it has not heard: each LF ends a line, which is answered. It stops
+    // where one more answer might not find room behind those that wait, or with the bytes.
+    pub fn hear<'a>(&mut self, bytes: &'a [u8]) -> &'a [u8]
+        requires { Bounded self.old }
+        ensures { Hears bytes.now (come self.old) result.now (come self.new) }
+    {
+        let mut rest = bytes;
+        while self.waits.len() <= LONGEST {
+            let Some((line, more)) = first_line(rest) else {
+                self.keep(rest);
+                return &[];
+            };
+            self.keep(line);
+            self.answer();
+            rest = more;
+        }
+        rest
+    }
+}
+
+// The first line, its LF taken off, and the bytes behind it.
+fn first_line(bytes: &[u8]) -> Option<(&[u8], &[u8])>
+    ensures { MatchOption result (NoEnd bytes.now) (λ cut. NoEnd cut.0.now × (bytes.now ≡ cut.0.now ++ lf ∷ cut.1.now)) }
+{
+    let end = memchr(LF, bytes)?;
+    Some((&bytes[..end], &bytes[end + 1..]))
 }

@@ -14,9 +14,7 @@ use Rattle.rules.specs.declared.Hole.{Hole}
 use Rattle.rules.specs.declared.Heap.{Heap}
 use Rattle.rules.specs.Inner.{Fair, behind}
 use Rattle.walk.specs.declared.Cursor.{Cursor}
-use Rattle.walk.specs.declared.Step.{Step}
-use Rattle.walk.specs.declared.Step.TheVariants as step
-use Rattle.walk.specs.Walk.{start_of, step_of, last_place, cursor_at}
+use Rattle.walk.specs.Walk.{Stepped, found_at, start_of, step_of, last_place, cursor_at}
 use Rattle.walk.proofs.Passed.{last_none, last_some, count_more, total_more}
 use Rattle.walk.proofs.Turn.{Gone, all, begins_all, turn_place, goes_on}
 
@@ -32,7 +30,7 @@ module _ (stops : Hole → Bool) (h : Heap) (m : List ℕ) where
 
   -- a hole is passed
   pub counts_on : {at : Place} {floor : Addr} {total count : ℕ} {front : List Hole} → Counting at floor total count front
-      → {st : Step} → st ≡ step_of h m at floor → {k : Hole} {q : Place} → st ≡ step.At k q → stops k ≡ false
+      → {st : Stepped} → st ≡ step_of h m at floor → {k : Hole} {q : Place} → st ≡ found_at k q → stops k ≡ false
       → Counting q (behind k) (total + k.size) (count + 1) (front ++ (k ∷ []))
   counts_on {front = front} c is {k} e n =
       record {
@@ -50,7 +48,7 @@ module _ (stops : Hole → Bool) (h : Heap) (m : List ℕ) where
   seeks f = record { front = []; counting = counts f; prev = sym (last_none h.base none) }
 
   pub seeks_on : {cursor : Cursor} {floor : Addr} {total count : ℕ} → Seeking cursor floor total count
-      → {st : Step} → st ≡ step_of h m cursor.hole floor → {k : Hole} {q : Place} → st ≡ step.At k q → stops k ≡ false
+      → {st : Stepped} → st ≡ step_of h m cursor.hole floor → {k : Hole} {q : Place} → st ≡ found_at k q → stops k ≡ false
       → Seeking (cursor_at cursor.hole q) (behind k) (total + k.size) (count + 1)
   seeks_on s is {k} e n =
       record {

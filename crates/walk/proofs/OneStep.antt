@@ -1,6 +1,7 @@
 -- A step at a place: what it is, by the rules on the head there, and what it tells of them. Assumes nothing.
 use mathlib.Core.Path.{◌≡◌, refl, ◌∙◌}
 use mathlib.Core.Bool.{true, false}
+use Rattle.std.proofs.Common.{Ok, Err, Some, None}
 use mathlib.Core.List.{List}
 use Prim.Native.Nat.{ℕ, ◌+◌, ◌%◌, ◌≤◌}
 use native.Mathlib.Omega.{arith}
@@ -16,11 +17,11 @@ use Rattle.rules.specs.declared.Head.{Head}
 use Rattle.rules.specs.declared.Hole.{Hole}
 use Rattle.rules.specs.declared.Heap.{Heap}
 use Rattle.rules.specs.Inner.{head_rules, ends}
-use Rattle.rules.proofs.Cases.{cases, by_test, apart}
+use Rattle.std.proofs.lemmas.Bool.{cond_both}
+use Rattle.rules.proofs.Cases.{cases, apart}
 use Rattle.rules.proofs.Walk.{Keeps, rules_keep, keep_rules}
-use Rattle.walk.specs.declared.Step.{Step}
-use Rattle.walk.specs.declared.Step.TheVariants as step
-use Rattle.walk.specs.Walk.{last_of, head_of, step_of, is_end}
+use Rattle.rules.specs.declared.Refusal.TheVariants.{NotSound}
+use Rattle.walk.specs.Walk.{Stepped, last_of, head_of, step_of, found_at}
 
 -- ---- two multiples of 8, tested as one by their `|`
 
@@ -50,37 +51,23 @@ pub record Found (h : Heap) (m : List ℕ) (at : Place) (floor : Addr) (k : Hole
 
 -- there is no further head, and what is left is 0 or at least 16 bytes; or the end breaks a rule, or the head does
 module _ (h : Heap) (m : List ℕ) (at : Place) (floor : Addr) where
-  abbrev pub Finds : Step → Type 0
-  Finds (step.At k q) = Found h m at floor k q
-  Finds step.End = (is_none at ≡ true) × (ends h floor ≡ true)
-  Finds step.Bad = (is_none at ≡ true → ends h floor ≡ false) × (is_none at ≡ false → all (head_rules h floor (hole_at h m at)) ≡ false)
+  abbrev pub Finds : Stepped → Type 0
+  Finds (Ok (Some s)) = Found h m at floor s.hole s.next
+  Finds (Ok None) = (is_none at ≡ true) × (ends h floor ≡ true)
+  Finds (Err r) =
+      (r ≡ NotSound)
+      × (is_none at ≡ true → ends h floor ≡ false)
+      × (is_none at ≡ false → all (head_rules h floor (hole_at h m at)) ≡ false)
 
   pub finds : Finds (step_of h m at floor)
   unfolding step_of last_of head_of
   finds =
-      by_test Finds (is_none at) _ _
-      (λ t. by_test Finds (ends h floor) _ _ (λ e. (t, e)) (λ e. (λ u. e, λ u. apart t u)))
+      cond_both (is_none at) _ _ Finds
+      (λ t. cond_both (ends h floor) _ _ Finds (λ e. (t, e)) (λ e. (refl, λ u. e, λ u. apart t u)))
       (λ t.
-      by_test Finds (all (head_rules h floor (hole_at h m at))) _ _
+      cond_both (all (head_rules h floor (hole_at h m at))) _ _ Finds
       (λ e. record { some = t; hole = refl; next = refl; rules = e })
-      (λ e. (λ u. apart u t, λ u. e)))
-
--- a step that finds no hole, as a `let .. else` parts it, finds the end or a broken rule
-pub is_end_lem : (s : Step) → is_end s ≡ true → s ≡ step.End
-unfolding is_end
-is_end_lem (step.At k q) e = apart e refl
-is_end_lem step.End e = refl
-is_end_lem step.Bad e = apart e refl
-
--- a step that found no hole
-abbrev pub NotAt : Step → Type 0
-NotAt s = (k : Hole) (q : Place) → s ≡ step.At k q → ⊥
-
-pub is_bad : (s : Step) → NotAt s → is_end s ≡ false → s ≡ step.Bad
-unfolding is_end
-is_bad (step.At k q) o e = absurd (o k q refl)
-is_bad step.End o e = apart refl e
-is_bad step.Bad o e = refl
+      (λ e. (refl, λ u. apart u t, λ u. e)))
 
 -- ---- by what `next` tests
 
@@ -94,11 +81,11 @@ module _ (h : Heap) (m : List ℕ) (at : Place) (floor : Addr) where
     unfolding step_of
     headed = rw (reached, read, ne_eqb at.0 none.0 some)
 
-    pub kept : Keeps h floor (hole a d.size) → step.At (hole a d.size) d.next ≡ step_of h m at floor
+    pub kept : Keeps h floor (hole a d.size) → found_at (hole a d.size) d.next ≡ step_of h m at floor
     unfolding head_of
     kept r = rw (keep_rules h floor (hole a d.size) r) at headed
 
-    pub broken : (Keeps h floor (hole a d.size) → ⊥) → step.Bad ≡ step_of h m at floor
+    pub broken : (Keeps h floor (hole a d.size) → ⊥) → Err NotSound ≡ step_of h m at floor
     unfolding head_of
     broken n =
         cases (all (head_rules h floor (hole a d.size)))

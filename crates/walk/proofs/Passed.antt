@@ -16,7 +16,7 @@ use Rattle.walk.specs.Walk.{Stop, stopped, ended, broken, past, last_place, last
 use mathlib.Core.Bool.{Bool, true, false}
 use Rattle.rules.specs.Tests.{all}
 use Rattle.rules.specs.declared.Heap.{Heap}
-use Rattle.rules.proofs.Cases.{by_test}
+use Rattle.std.proofs.lemmas.Bool.{cond_both}
 use Rattle.rules.proofs.Walk.{rules_keep, walks}
 
 -- ---- none, and one more
@@ -78,15 +78,15 @@ module _ (low : Addr) (front : List Hole) (k : Hole) (least : min_size ≤ k.siz
   spaced_before s above = record { counted = omega arith; summed = omega arith }
 
 -- no hole of a list stops it
-abbrev pub None : (Hole → Bool) → List Hole → Type 0
-None stops [] = Unit {0}
-None stops (k ∷ ks) = (stops k ≡ false) × None stops ks
+abbrev pub NoneStops : (Hole → Bool) → List Hole → Type 0
+NoneStops stops [] = Unit {0}
+NoneStops stops (k ∷ ks) = (stops k ≡ false) × NoneStops stops ks
 
 module _ (stops : Hole → Bool) (h : Heap) where
   -- the holes passed stand in front of those left, and the rules on all are those on what is left
   pub record Came (low : Addr) (ks front back : List Hole) : Type 0 where
     pub list : ks ≡ front ++ back
-    pub none : None stops front
+    pub none : NoneStops stops front
     pub spaced : Spaced low front
     pub onward : walks h low ks ≡ walks h (last_floor low front) back
 
@@ -122,11 +122,11 @@ module _ (stops : Hole → Bool) (h : Heap) where
 
   pub said : (low : Addr) (ks : List Hole) → Says low ks (walked stops h low ks)
   unfolding walked walks last_floor
-  said low [] = by_test (Says low []) (ends h low) _ _ (λ e. (came_none low [], e)) (λ e. e)
+  said low [] = cond_both (ends h low) _ _ (Says low []) (λ e. (came_none low [], e)) (λ e. e)
   said low (k ∷ ks) =
-      by_test (Says low (k ∷ ks)) (all (head_rules h low k)) _ _
+      cond_both (all (head_rules h low k)) _ _ (Says low (k ∷ ks))
       (λ e.
-      by_test (Says low (k ∷ ks)) (stops k) _ _
+      cond_both (stops k) _ _ (Says low (k ∷ ks))
       (λ y. (came_none low (k ∷ ks), e, y))
       (λ n. said_on low k ks e n (walked stops h (behind k) ks) (said (behind k) ks)))
       (λ e. rw e)

@@ -13,24 +13,24 @@ use Rattle.rules.specs.declared.Place.{Place}
 use Rattle.rules.specs.declared.Hole.{Hole}
 use Rattle.rules.specs.declared.Heap.{Heap}
 use Rattle.rules.specs.Inner.{Fair, behind}
-use Rattle.walk.specs.declared.Step.{Step}
-use Rattle.walk.specs.declared.Step.TheVariants as step
-use Rattle.walk.specs.declared.Walked.TheVariants as whole
-use Rattle.walk.specs.Walk.{Enough, step_of, is_end, never, walked_by, walked_of, start_of, Stop, stopped, ended, broken, walked, last_floor, adds_up}
+use Rattle.rules.specs.declared.Refusal.{Refusal}
+use Rattle.rules.specs.declared.Refusal.TheVariants.{NotSound}
+use Rattle.walk.specs.Walk.{Enough, Stepped, found_at, step_of, never, walked_by, walked_of, start_of, Stop, stopped, ended, broken, walked, last_floor, or_5, adds_up}
 use Rattle.walk.proofs.Passed.{total_more, Spaced}
-use Rattle.walk.proofs.Turn.{Walk, Gone, begins, goes_on, ends_here, breaks, start}
+use Rattle.walk.proofs.Turn.{Walk, Gone, begins, goes_on, ends_here, breaks_5, breaks, start}
 use lib.ListN.{length}
+use Rattle.std.specs.Prelude.{⊤}
+use Rattle.std.proofs.Common.{Result, Ok, Err, None}
 use Rattle.rules.specs.Kinds.{none}
-use Rattle.rules.proofs.Cases.{by_eq, apart, iff}
+use Rattle.std.specs.Cmp.{both_ways}
+use Rattle.rules.proofs.Cases.{by_eq, apart}
 use Rattle.rules.proofs.Lists.{from_none, from_step, first_from}
 use lib.Dec.{eqb}
 use borrow.Author.Tests.{eqb-true, eq-eqb, ne_eqb}
 use Rattle.rules.specs.Sound.{size, sound_holes, most, holes}
 use Rattle.rules.proofs.Walk.{walks, sound_walks}
 use Rattle.rules.proofs.Totals.{total_append}
-use Rattle.walk.specs.declared.Walked.{Walked}
 use Rattle.walk.proofs.Passed.{Says, said, said_end, said_bad}
-use Rattle.walk.proofs.OneStep.{NotAt}
 
 -- from a place and a floor on, with the sum of the sizes before
 abbrev pub onward : Heap → List ℕ → Place → Addr → Walk
@@ -47,8 +47,8 @@ module _ (h : Heap) (m : List ℕ) (from : Place) (low : Addr) (before : ℕ) wh
   sums f l = record { front = []; gone = begins (onward h m from low) f l; summed = omega arith }
 
 module _ {h : Heap} {m : List ℕ} {from : Place} {low : Addr} {before : ℕ} {at : Place} {floor : Addr} {total : ℕ} where
-  module _ (s : Summing h m from low before at floor total) {st : Step} (is : st ≡ step_of h m at floor) where
-    pub sums_on : {k : Hole} {q : Place} → st ≡ step.At k q → Summing h m from low before q (behind k) (total + k.size)
+  module _ (s : Summing h m from low before at floor total) {st : Stepped} (is : st ≡ step_of h m at floor) where
+    pub sums_on : {k : Hole} {q : Place} → st ≡ found_at k q → Summing h m from low before q (behind k) (total + k.size)
     sums_on {k} e =
         record {
           front = s.front ++ (k ∷ []);
@@ -57,14 +57,13 @@ module _ {h : Heap} {m : List ℕ} {from : Place} {low : Addr} {before : ℕ} {a
         }
 
     module _ (n : ℕ) (en : Enough h low n) where
-      pub walk_ended : is_end st ≡ true → whole.Good total ≡ walked_of h low before (holes_from n h.base m from)
+      pub walk_ended : st ≡ Ok None → Ok total ≡ walked_of h low before (holes_from n h.base m from)
       unfolding walked_of walked_by
       walk_ended e = rw (ends_here s.gone is e n en, s.summed)
 
-      pub walk_broken : NotAt st → is_end st ≡ false
-          → whole.Bad ≡ walked_of h low before (holes_from n h.base m from)
+      pub walk_broken : {r : Refusal} → st ≡ Err r → Err r ≡ walked_of h low before (holes_from n h.base m from)
       unfolding walked_of walked_by
-      walk_broken o e = rw (breaks s.gone is o e n en)
+      walk_broken e = rw (breaks_5 s.gone is e, breaks s.gone is e n en)
 
 -- the heads that are left to read behind those passed
 pub record Rest (n : ℕ) (base : Addr) (m : List ℕ) (front back : List Hole) : Type 0 where
@@ -80,7 +79,7 @@ again (suc n) base m p = rw (first_from n base m p)
 
 -- an empty list has no first hole
 no_first {ℓ} : {X : Type ℓ} {k : Hole} {ks : List Hole} → [] ≡ k ∷ ks → X
-no_first e = let z : ◌≡◌ {A = ℕ} 0 1 = cc in absurd (omega arith)
+no_first e = cc
 
 pub rest : (n : ℕ) (base : Addr) (m : List ℕ) (p : Place) (front back : List Hole)
     → holes_from n base m p ≡ front ++ back → Rest n base m front back
@@ -99,12 +98,34 @@ rest (suc n) base m p (k ∷ front) back e =
 -- it is size − used, as the code tests it: nothing is added that could wrap
 pub sum_left : (total used size : ℕ) → used ≤ size → eqb total (size - used) ≡ eqb (total + used) size
 sum_left total used size l =
-    iff
+    both_ways _ _
     (λ e. eq-eqb (total + used) size (omega (arith, eqb-true total (size - used) e)))
     (λ e. eq-eqb total (size - used) (omega (arith, eqb-true (total + used) size e)))
 
 pub sum_over : (total used size : ℕ) → size < used → eqb (total + used) size ≡ false
 sum_over total used size l = ne_eqb (total + used) size (λ e. omega (arith, e))
+
+-- a walk to the end is refused with 5 alone
+walked_by_5 : (sum : ℕ) (s : Stop) {r : Refusal} → walked_by sum s ≡ Err r → r ≡ NotSound
+unfolding walked_by
+walked_by_5 sum (stopped front k back) e = cc
+walked_by_5 sum (ended ks) e = cc
+walked_by_5 sum broken e = cc
+
+pub walked_5 : (h : Heap) (floor : Addr) (sum : ℕ) (ks : List Hole) {r : Refusal} → walked_of h floor sum ks ≡ Err r → r ≡ NotSound
+unfolding walked_of
+walked_5 h floor sum ks e = walked_by_5 sum (walked never h floor ks) e
+
+-- what a test of a rule says, read back
+pub or_5_broken : {b : Bool} {r : Refusal} → or_5 b ≡ Err r → (b ≡ false) × (r ≡ NotSound)
+unfolding or_5
+or_5_broken {b = true} e = cc
+or_5_broken {b = false} e = (refl, cc)
+
+pub or_5_kept : {b : Bool} → or_5 b ≡ Ok tt → b ≡ true
+unfolding or_5
+or_5_kept {b = true} e = refl
+or_5_kept {b = false} e = cc
 
 -- ---- the walk and the sum
 
@@ -171,8 +192,9 @@ module _ {h : Heap} {m : List ℕ} {at : Place} {floor : Addr} {total : ℕ} {fr
       (omega (arith, (start h m r.fair).bottom, r.summed, r.spaced.summed), r.high)
 
   -- it decides the rules on all holes
-  pub onward_decides : {w : Walked} → ((n : ℕ) → Enough h floor n → w ≡ walked_of h floor total (holes_from n h.base m at))
-      → sound_holes h (holes h m) ≡ adds_up h w
+  pub onward_decides : {w : Result ⊤ Refusal}
+      → ((n : ℕ) → Enough h floor n → w ≡ or_5 (adds_up h (walked_of h floor total (holes_from n h.base m at))))
+      → w ≡ or_5 (sound_holes h (holes h m))
   onward_decides is =
       let s = start h m r.fair in
       let f = ap (λ (a : Addr). a.0) r.behind in
@@ -180,4 +202,4 @@ module _ {h : Heap} {m : List ℕ} {at : Place} {floor : Addr} {total : ℕ} {fr
       let w = is l.left (omega (arith, l.is, s.enough, r.spaced.counted)) in
       let b = ap (holes_from l.left h.base m) r.next ∙ l.list in
       let t : Holes.total (holes h m) ≡ total + Holes.total back = omega (arith, ap Holes.total r.list, total_append front back, r.summed) in
-      holes_onward h m r.fair floor total back r.onward t ∙ ap (adds_up h) (sym (w ∙ ap (walked_of h floor total) b))
+      w ∙ rw (b, holes_onward h m r.fair floor total back r.onward t)

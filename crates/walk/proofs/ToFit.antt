@@ -1,7 +1,7 @@
 -- The walk to the hole that an allocation uses: where a block starts in a hole and whether the hole suits; how the loop answers, and what the
 -- answer says of the list of holes. Assumes nothing.
 use mathlib.Core.Path.{◌≡◌, sym, ap, refl, ◌∙◌}
-use mathlib.Core.Bool.{true, false, or-false}
+use mathlib.Core.Bool.{true, false, cond, or-false}
 use Prim.Native.Nat.{ℕ, ◌+◌, ◌%◌, ◌≤◌, ◌<◌}
 use native.Mathlib.Omega.{arith}
 use lib.Dec.{leb}
@@ -10,16 +10,17 @@ use Rattle.rules.specs.Fixed.{min_size}
 use Rattle.rules.specs.Round.{Power, Above}
 use Rattle.rules.specs.Kinds.{addr, plus, place_of, none}
 use Rattle.rules.specs.Holes.{end, first_of}
-use Rattle.rules.specs.Sound.{gap, holes}
+use Rattle.rules.specs.Sound.{gap, sound_holes, holes}
 use Rattle.rules.specs.Allocate.{candidate, suits, find, later, nothing}
 use Rattle.rules.specs.declared.Addr.{Addr}
 use Rattle.rules.specs.declared.Hole.{Hole}
-use Rattle.rules.proofs.Cases.{by_eq}
+use Rattle.rules.proofs.Cases.{cases, by_eq, apart}
 use Rattle.rules.proofs.Multiples.{up_near, above_is}
 use Rattle.rules.proofs.Powers.{power_pos}
 use Rattle.rules.proofs.Used.{candidate_low}
 use mathlib.Core.List.{List, [], ◌∷◌, ◌++◌, append-nil, append_assoc}
 use lib.ListN.{length}
+use Rattle.std.proofs.Common.{Result, Ok, Err, None}
 use Rattle.rules.specs.Holes as Holes
 use Rattle.rules.specs.Allocate as Allocate
 use Rattle.rules.specs.declared.Place.{Place}
@@ -28,17 +29,14 @@ use Rattle.rules.specs.Inner.{Fair, behind}
 use Rattle.rules.proofs.Walk.{Keeps, rules_keep, walks}
 use Rattle.walk.specs.declared.Cursor.{Cursor}
 use Rattle.walk.specs.declared.Fit.{Fit}
-use Rattle.walk.specs.declared.Step.{Step}
-use Rattle.walk.specs.declared.Step.TheVariants as step
-use Rattle.walk.specs.declared.Search.{Search}
-use Rattle.walk.specs.declared.Search.TheVariants as search
-use Rattle.walk.specs.Walk.{start_of, step_of, is_end, Stop, stopped, ended, broken, last_place, last_floor, search_by, search_of}
+use Rattle.rules.specs.declared.Refusal.{Refusal}
+use Rattle.rules.specs.declared.Refusal.TheVariants.{NotSound, NoRoom}
+use Rattle.walk.specs.Walk.{Stepped, found_at, start_of, step_of, Stop, stopped, ended, broken, last_place, last_floor, all_free, no_fit, search_by, search_of}
 use Rattle.walk.proofs.Passed.{floor_some, total_more, Spaced, spaced_more}
-use Rattle.walk.proofs.Turn.{turn_place, all_halt, all_end, all_break}
-use Rattle.walk.proofs.Passed.{None, Says, said}
+use Rattle.walk.proofs.Turn.{breaks_5, turn_place, all_halt, all_end, all_break}
+use Rattle.walk.proofs.Passed.{NoneStops, Says, said}
 use Rattle.walk.proofs.Gathered.{Seeking}
-use Rattle.walk.proofs.ToEnd.{Reached}
-use Rattle.walk.proofs.OneStep.{NotAt}
+use Rattle.walk.proofs.ToEnd.{by_walk, Reached}
 
 module _ {align : ℕ} (p : Power align) (h : Addr) where
   -- the two ways to compute it
@@ -90,33 +88,33 @@ module _ (want : ℕ) {align : ℕ} (p : Power align) (k : Hole) where
 -- ---- the loop
 
 module _ (want align : ℕ) {h : Heap} {m : List ℕ} {cursor : Cursor} {floor : Addr} {total count : ℕ} where
-  module _ (s : Seeking (Allocate.suits want align) h m cursor floor total count) {st : Step} (is : st ≡ step_of h m cursor.hole floor) where
-    pub search_found : {k : Hole} {q : Place} → st ≡ step.At k q → Allocate.suits want align k ≡ true
-        → search.At (record { cursor = cursor; hole = k; next = q; count = count + 1; total = total + k.size })
+  module _ (s : Seeking (Allocate.suits want align) h m cursor floor total count) {st : Stepped} (is : st ≡ step_of h m cursor.hole floor) where
+    pub search_found : {k : Hole} {q : Place} → st ≡ found_at k q → Allocate.suits want align k ≡ true
+        → Ok (record { cursor = cursor; hole = k; next = q; count = count + 1; total = total + k.size })
         ≡ search_of h want align (holes h m)
     unfolding search_of search_by
     search_found e y =
         let t = all_halt s.counting.gone is e y in
         rw (t.1, t.2, ← s.prev, ← turn_place s.counting.gone is e, s.counting.counted, s.counting.summed)
 
-    pub search_ended : is_end st ≡ true → search.Nowhere count total ≡ search_of h want align (holes h m)
-    unfolding search_of search_by
+    pub search_ended : st ≡ Ok None → Err (cond (all_free h total) (NoRoom count) NotSound) ≡ search_of h want align (holes h m)
+    unfolding search_of search_by no_fit
     search_ended e = rw (all_end s.counting.gone is e, s.counting.counted, s.counting.summed)
 
-    pub search_broken : NotAt st → is_end st ≡ false → search.Bad ≡ search_of h want align (holes h m)
+    pub search_broken : {r : Refusal} → st ≡ Err r → Err r ≡ search_of h want align (holes h m)
     unfolding search_of search_by
-    search_broken o e = rw (all_break s.counting.gone is o e)
+    search_broken e = rw (breaks_5 s.counting.gone is e, all_break s.counting.gone is e)
 
 -- ---- what the answer says of the list
 
 module _ (want align : ℕ) where
-  find_past : (front : List Hole) (k : Hole) (back : List Hole) → None (Allocate.suits want align) front → Allocate.suits want align k ≡ true
+  find_past : (front : List Hole) (k : Hole) (back : List Hole) → NoneStops (Allocate.suits want align) front → Allocate.suits want align k ≡ true
       → find want align (front ++ (k ∷ back)) ≡ Allocate.found front k back
   unfolding find later
   find_past [] k back n y = rw y
   find_past (j ∷ front) k back n y = rw (n.0, find_past front k back n.1 y)
 
-  find_none : (ks : List Hole) → None (Allocate.suits want align) ks → find want align ks ≡ nothing
+  find_none : (ks : List Hole) → NoneStops (Allocate.suits want align) ks → find want align ks ≡ nothing
   unfolding find later
   find_none [] n = refl
   find_none (k ∷ ks) n = rw (n.0, find_none ks n.1)
@@ -139,19 +137,16 @@ module _ (h : Heap) (want align : ℕ) where
     pub spaced : Spaced (start_of h) front
     pub onward : walks h (start_of h) ks ≡ walks h (behind f.hole) back
 
-  -- no hole suits: all are counted and summed
-  pub record Nowhere (ks : List Hole) (c t : ℕ) : Type 0 where
-    pub walked : walks h (start_of h) ks ≡ true
-    pub none : find want align ks ≡ nothing
-    pub counted : c ≡ length ks
-    pub summed : t ≡ Holes.total ks
+  -- no hole suits, or a rule is broken
+  pub record Fails (ks : List Hole) (r : Refusal) : Type 0 where
+    pub why : r ≡ cond (walks h (start_of h) ks) (no_fit h ks) NotSound
+    pub none : walks h (start_of h) ks ≡ true → find want align ks ≡ nothing
 
-  abbrev Tells : List Hole → Search → Type 0
-  Tells ks (search.At f) = Fits ks f
-  Tells ks (search.Nowhere c t) = Nowhere ks c t
-  Tells ks search.Bad = walks h (start_of h) ks ≡ false
+  abbrev Tells : List Hole → Result Fit Refusal → Type 0
+  Tells ks (Ok f) = Fits ks f
+  Tells ks (Err r) = Fails ks r
 
-  tells : (ks : List Hole) (s : Stop) → Says (Allocate.suits want align) h (start_of h) ks s → Tells ks (search_by h.base s)
+  tells : (ks : List Hole) (s : Stop) → Says (Allocate.suits want align) h (start_of h) ks s → Tells ks (search_by h s)
   unfolding search_by walks
   tells ks (stopped front k back) s =
       let c = s.0 in
@@ -173,27 +168,36 @@ module _ (h : Heap) (want align : ℕ) where
   tells ks (ended front) s =
       let c = s.0 in
       let list = c.list ∙ append-nil front in
-      record {
-        walked = c.onward ∙ s.1;
-        none = rw list (find_none want align front c.none);
-        counted = rw list;
-        summed = rw list;
-      }
-  tells ks broken s = s
+      record { why = rw (c.onward ∙ s.1, list); none = λ w. rw list (find_none want align front c.none) }
+  tells ks broken s = record { why = rw s; none = λ w. apart w s }
 
   module _ (ks : List Hole) where
     told : Tells ks (search_of h want align ks)
     unfolding search_of
     told = tells ks _ (said (Allocate.suits want align) h (start_of h) ks)
 
-    pub fit_at : {f : Fit} → search_of h want align ks ≡ search.At f → Fits ks f
+    pub fit_at : {f : Fit} → search_of h want align ks ≡ Ok f → Fits ks f
     fit_at e = rw e at told
 
-    pub fit_nowhere : {c t : ℕ} → search_of h want align ks ≡ search.Nowhere c t → Nowhere ks c t
-    fit_nowhere e = rw e at told
+    pub fit_fails : {r : Refusal} → search_of h want align ks ≡ Err r → Fails ks r
+    fit_fails e = rw e at told
 
-    pub fit_bad : search_of h want align ks ≡ search.Bad → walks h (start_of h) ks ≡ false
-    fit_bad e = rw e at told
+-- it is refused with 7 where all rules are kept, and then no hole suits; else with 5
+module _ (h : Heap) (m : List ℕ) (want align : ℕ) (fair : Fair h) {r : Refusal} (e : search_of h want align (holes h m) ≡ Err r) where
+  pub fit_refused : r ≡ cond (sound_holes h (holes h m)) (NoRoom (length (holes h m))) NotSound
+  unfolding no_fit
+  fit_refused =
+      let ks = holes h m in
+      (fit_fails h want align ks e).why
+      ∙ cases (walks h (start_of h) ks) (λ w. rw (by_walk h m fair, w)) (λ w. rw (by_walk h m fair, w))
+
+  pub fit_none : sound_holes h (holes h m) ≡ true → find want align (holes h m) ≡ nothing
+  fit_none s =
+      let ks = holes h m in
+      (fit_fails h want align ks e).none
+      (cases (walks h (start_of h) ks)
+      (λ w. w)
+      (λ w. let f : sound_holes h ks ≡ false = by_walk h m fair ∙ rw w in apart s f))
 
 -- the holes up to it are passed: a walk that goes on starts behind it
 pub fit_reached : (h : Heap) (m : List ℕ) (want align : ℕ) {f : Fit} → Fair h → (t : Fits h want align (holes h m) f)

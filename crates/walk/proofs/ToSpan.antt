@@ -4,6 +4,7 @@ use mathlib.Core.Bool.{true, false}
 use mathlib.Core.List.{List, [], ◌∷◌, ◌++◌}
 use Prim.Native.Nat.{ℕ, ◌+◌, ◌≤◌, ◌<◌}
 use native.Mathlib.Omega.{arith}
+use Rattle.std.proofs.Common.{Result, Ok, Err, None}
 use borrow.Author.Tests.{ltb-true, ltb-false, lt-ltb}
 use Rattle.rules.specs.Fixed.{min_size}
 use Rattle.rules.specs.Tests.{all}
@@ -20,38 +21,35 @@ use Rattle.rules.proofs.Walk.{rules_keep, walks, ends_cases}
 use Rattle.rules.proofs.Freed.{Past}
 use Rattle.walk.specs.declared.Cursor.{Cursor}
 use Rattle.walk.specs.declared.Near.{Near}
-use Rattle.walk.specs.declared.Step.{Step}
-use Rattle.walk.specs.declared.Step.TheVariants as step
-use Rattle.walk.specs.declared.Spot.{Spot}
-use Rattle.walk.specs.declared.Spot.TheVariants as spot
-use Rattle.walk.specs.Walk.{start_of, step_of, is_end, Stop, stopped, ended, broken, last_place, last_floor, is_beyond, near_to, near_by, near_of}
+use Rattle.rules.specs.declared.Refusal.{Refusal}
+use Rattle.rules.specs.declared.Refusal.TheVariants.{NotSound}
+use Rattle.walk.specs.Walk.{Stepped, found_at, start_of, step_of, Stop, stopped, ended, broken, last_place, last_floor, is_beyond, near_to, near_by, near_of}
 use Rattle.walk.proofs.Passed.{Spaced}
-use Rattle.walk.proofs.Turn.{turn_place, end_place, all_halt, all_end, all_break}
-use Rattle.walk.proofs.Passed.{None, Came, Says, said}
+use Rattle.walk.proofs.Turn.{breaks_5, turn_place, end_place, all_halt, all_end, all_break}
+use Rattle.walk.proofs.Passed.{NoneStops, Came, Says, said}
 use Rattle.walk.proofs.Gathered.{Seeking}
 use Rattle.walk.proofs.ToEnd.{Reached}
-use Rattle.walk.proofs.OneStep.{NotAt}
 
 -- ---- the loop
 
 module _ (x : Addr) {h : Heap} {m : List ℕ} {cursor : Cursor} {floor : Addr} {total count : ℕ} where
-  module _ (s : Seeking (is_beyond x) h m cursor floor total count) {st : Step} (is : st ≡ step_of h m cursor.hole floor) where
-    abbrev here : Spot
-    here = spot.Between (record { cursor = cursor; floor = floor; total = total })
+  module _ (s : Seeking (is_beyond x) h m cursor floor total count) {st : Stepped} (is : st ≡ step_of h m cursor.hole floor) where
+    abbrev here : Result Near Refusal
+    here = Ok (record { cursor = cursor; floor = floor; total = total })
 
-    pub near_found : {k : Hole} {q : Place} → st ≡ step.At k q → x.0 < k.addr.0 → here ≡ near_of h x (holes h m)
+    pub near_found : {k : Hole} {q : Place} → st ≡ found_at k q → x.0 < k.addr.0 → here ≡ near_of h x (holes h m)
     unfolding near_of near_by first_of
     near_found {k} e l =
         let t = all_halt s.counting.gone is e (lt-ltb x.0 k.addr.0 l) in
         rw (t.1, ← s.prev, ← turn_place s.counting.gone is e, ← s.counting.gone.behind, ← s.counting.summed)
 
-    pub near_ended : is_end st ≡ true → here ≡ near_of h x (holes h m)
+    pub near_ended : st ≡ Ok None → here ≡ near_of h x (holes h m)
     unfolding near_of near_by first_of
     near_ended e = rw (all_end s.counting.gone is e, ← s.prev, ← end_place s.counting.gone is e, ← s.counting.gone.behind, ← s.counting.summed)
 
-    pub near_broken : NotAt st → is_end st ≡ false → spot.Bad ≡ near_of h x (holes h m)
+    pub near_broken : {r : Refusal} → st ≡ Err r → Err r ≡ near_of h x (holes h m)
     unfolding near_of near_by
-    near_broken o e = rw (all_break s.counting.gone is o e)
+    near_broken e = rw (breaks_5 s.counting.gone is e, all_break s.counting.gone is e)
 
 -- ---- what the answer says of the list
 
@@ -60,7 +58,7 @@ abbrev pub AllFrom : Addr → List Hole → Type 0
 AllFrom x [] = Unit {0}
 AllFrom x (k ∷ ks) = (k.addr.0 ≤ x.0) × AllFrom x ks
 
-all_from : (x : Addr) (ks : List Hole) → None (is_beyond x) ks → AllFrom x ks
+all_from : (x : Addr) (ks : List Hole) → NoneStops (is_beyond x) ks → AllFrom x ks
 all_from x [] n = tt
 all_from x (k ∷ ks) n = (ltb-false x.0 k.addr.0 n.0, all_from x ks n.1)
 
@@ -93,9 +91,9 @@ module _ (h : Heap) (x : Addr) where
     pub spaced : Spaced (start_of h) front
     pub onward : walks h (start_of h) ks ≡ walks h s.floor back
 
-  abbrev Tells : List Hole → Spot → Type 0
-  Tells ks (spot.Between s) = Lies ks s
-  Tells ks spot.Bad = walks h (start_of h) ks ≡ false
+  abbrev Tells : List Hole → Result Near Refusal → Type 0
+  Tells ks (Ok s) = Lies ks s
+  Tells ks (Err r) = (r ≡ NotSound) × (walks h (start_of h) ks ≡ false)
 
   came_lies : (ks front back : List Hole) → Came (is_beyond x) h (start_of h) ks front back → Beyond x back
       → Begins h (last_floor (start_of h) front) back → Lies ks (near_to h front back)
@@ -119,17 +117,17 @@ module _ (h : Heap) (x : Addr) where
   unfolding near_by
   tells ks (stopped front k back) s = came_lies ks front (k ∷ back) s.0 (ltb-true x.0 k.addr.0 s.2) s.1
   tells ks (ended front) s = came_lies ks front [] s.0 tt s.1
-  tells ks broken s = s
+  tells ks broken s = (refl, s)
 
   module _ (ks : List Hole) where
     told : Tells ks (near_of h x ks)
     unfolding near_of
     told = tells ks _ (said (is_beyond x) h (start_of h) ks)
 
-    pub near_at : {s : Near} → near_of h x ks ≡ spot.Between s → Lies ks s
+    pub near_at : {s : Near} → near_of h x ks ≡ Ok s → Lies ks s
     near_at e = rw e at told
 
-    pub near_bad : near_of h x ks ≡ spot.Bad → walks h (start_of h) ks ≡ false
+    pub near_bad : {r : Refusal} → near_of h x ks ≡ Err r → (r ≡ NotSound) × (walks h (start_of h) ks ≡ false)
     near_bad e = rw e at told
 
 -- a walk that goes on starts behind the holes before the address

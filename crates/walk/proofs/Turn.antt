@@ -7,6 +7,7 @@ use Prim.Native.Nat.{ℕ, zero, suc, ◌+◌, ◌*◌, ◌-◌, ◌≤◌, ◌<�
 use native.Mathlib.Omega.{arith}
 use lib.Dec.{eqb}
 use lib.ListN.{length}
+use Rattle.std.proofs.Common.{Ok, Err, None}
 use borrow.Author.Tests.{eqb-true, eqb-false, eq-eqb, ne_eqb}
 use Rattle.rules.specs.Fixed.{min_size, addr_limit}
 use Rattle.rules.specs.Kinds.{place_of, none, is_none}
@@ -20,10 +21,10 @@ use Rattle.rules.specs.Inner.{Fair, behind, ends}
 use Rattle.rules.proofs.Cases.{cases}
 use Rattle.rules.proofs.Walk.{rules_keep, floor_of, floor_low, floor_high}
 use Rattle.rules.proofs.Lists.{from_none, from_step, place_back, first_from, holes_read}
-use Rattle.walk.specs.declared.Step.{Step}
-use Rattle.walk.specs.declared.Step.TheVariants as step
-use Rattle.walk.specs.Walk.{Enough, start_of, step_of, is_end, Stop, stopped, ended, broken, past, walked, last_floor}
-use Rattle.walk.proofs.OneStep.{NotAt, hole_at, Found, finds, is_end_lem, is_bad}
+use Rattle.rules.specs.declared.Refusal.{Refusal}
+use Rattle.rules.specs.declared.Refusal.TheVariants.{NotSound}
+use Rattle.walk.specs.Walk.{Enough, Stepped, found_at, start_of, step_of, Stop, stopped, ended, broken, past, walked, last_floor}
+use Rattle.walk.proofs.OneStep.{hole_at, Found, finds}
 use Rattle.walk.proofs.Passed.{past_none, past_more, floor_some, Spaced, spaced_none, spaced_more}
 
 -- ---- the list at a place
@@ -100,9 +101,9 @@ pub record Bounds (w : Walk) (floor : Addr) (front : List Hole) (k : Hole) : Typ
   pub counted : w.low.0 + (2 * min_size) * length front ≤ floor.0
   pub summed : w.low.0 + total front ≤ floor.0
 
-module _ {w : Walk} {at : Place} {floor : Addr} {front : List Hole} (g : Gone w at floor front) {st : Step} (is : st ≡ step_of w.h w.m at floor) where
+module _ {w : Walk} {at : Place} {floor : Addr} {front : List Hole} (g : Gone w at floor front) {st : Stepped} (is : st ≡ step_of w.h w.m at floor) where
   abbrev At : Hole → Place → Type 0
-  At k q = st ≡ step.At k q
+  At k q = st ≡ found_at k q
 
   found : {k : Hole} {q : Place} → At k q → Found w.h w.m at floor k q
   found e = rw (sym is ∙ e) at (finds w.h w.m at floor)
@@ -170,13 +171,13 @@ module _ {w : Walk} {at : Place} {floor : Addr} {front : List Hole} (g : Gone w 
       (holes_from (l.rest - 1) w.h.base w.m q, l.same ∙ rw (ahead e l, (found e).rules, y, append-nil), first_at (l.rest - 1) w.h w.m q more)
 
   -- the step finds no further hole
-  end_found : is_end st ≡ true → (is_none at ≡ true) × (ends w.h floor ≡ true)
-  end_found e = rw (sym is ∙ is_end_lem st e) at (finds w.h w.m at floor)
+  end_found : st ≡ Ok None → (is_none at ≡ true) × (ends w.h floor ≡ true)
+  end_found e = rw (sym is ∙ e) at (finds w.h w.m at floor)
 
-  pub end_place : is_end st ≡ true → at ≡ none
+  pub end_place : st ≡ Ok None → at ≡ none
   end_place e = let z = eqb-true at.0 none.0 (end_found e).0 in rw z
 
-  pub ends_here : is_end st ≡ true → (n : ℕ) → Enough w.h w.low n → over w (few w n) ≡ ended front
+  pub ends_here : st ≡ Ok None → (n : ℕ) → Enough w.h w.low n → over w (few w n) ≡ ended front
   unfolding walked past
   ends_here e n en =
       let l = g.left n en in
@@ -184,16 +185,19 @@ module _ {w : Walk} {at : Place} {floor : Addr} {front : List Hole} (g : Gone w 
       l.same ∙ rw (holes_none l.rest w.h w.m at t.0, t.1, append-nil)
 
   -- or a broken rule
-  pub breaks : NotAt st → is_end st ≡ false → (n : ℕ) → Enough w.h w.low n
-      → over w (few w n) ≡ broken
-  unfolding walked past
-  breaks o e n en =
-      let l = g.left n en in
-      let b = rw (sym is ∙ is_bad st o e) at (finds w.h w.m at floor) in
-      l.same
-      ∙ cases (is_none at)
-      (λ t. rw (holes_none l.rest w.h w.m at t, b.0 t))
-      (λ t. rw (list_at l t, b.1 t))
+  module _ {r : Refusal} (e : st ≡ Err r) where
+    pub breaks_5 : r ≡ NotSound
+    breaks_5 = (rw (sym is ∙ e) at (finds w.h w.m at floor)).0
+
+    pub breaks : (n : ℕ) → Enough w.h w.low n → over w (few w n) ≡ broken
+    unfolding walked past
+    breaks n en =
+        let l = g.left n en in
+        let b = rw (sym is ∙ e) at (finds w.h w.m at floor) in
+        l.same
+        ∙ cases (is_none at)
+        (λ t. rw (holes_none l.rest w.h w.m at t, b.1 t))
+        (λ t. rw (list_at l t, b.2 t))
 
 -- ---- where a walk over all holes starts
 
@@ -256,14 +260,13 @@ module _ {stops : Hole → Bool} {h : Heap} {m : List ℕ} {at : Place} {floor :
       let l = g.left (suc (most h)) s.enough in
       (holes_from l.rest h.base m at, s.list ∙ l.list)
 
-  module _ {st : Step} (is : st ≡ step_of h m at floor) where
-    pub all_halt : {k : Hole} {q : Place} → st ≡ step.At k q → stops k ≡ true
+  module _ {st : Stepped} (is : st ≡ step_of h m at floor) where
+    pub all_halt : {k : Hole} {q : Place} → st ≡ found_at k q → stops k ≡ true
         → (back : List Hole) × (walked stops h (start_of h) (holes h m) ≡ stopped front k back) × (first_of h.base back ≡ q)
     all_halt e y = let s = start h m g.fair in rw s.list (halts g is e y (suc (most h)) s.enough)
 
-    pub all_end : is_end st ≡ true → walked stops h (start_of h) (holes h m) ≡ ended front
+    pub all_end : st ≡ Ok None → walked stops h (start_of h) (holes h m) ≡ ended front
     all_end e = let s = start h m g.fair in rw s.list (ends_here g is e (suc (most h)) s.enough)
 
-    pub all_break : NotAt st → is_end st ≡ false
-        → walked stops h (start_of h) (holes h m) ≡ broken
-    all_break o e = let s = start h m g.fair in rw s.list (breaks g is o e (suc (most h)) s.enough)
+    pub all_break : {r : Refusal} → st ≡ Err r → walked stops h (start_of h) (holes h m) ≡ broken
+    all_break e = let s = start h m g.fair in rw s.list (breaks g is e (suc (most h)) s.enough)

@@ -2,5 +2,5 @@
 
 -- the one walk over the holes, and what each walk answers by it
 pub mod Walk
--- what a call leans on once its tests have passed
+-- what a call leans on once a walk has come to the end
 pub mod Settled

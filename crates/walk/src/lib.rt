@@ -1,25 +1,26 @@
 // The walk over the heads of an arena. A step tests all that document 01 asks of one head, and every
 // walk above it goes step by step: to the hole that an allocation uses, to the neighbours of a span, or
-// to the end. Each ends at the first head that breaks a rule. Nothing here writes.
+// to the end. Each ends with 5 at the first head that breaks a rule. Nothing here writes.
 #![tactic(auto)]
 
 mod one_step;
+mod settled;
 mod to_end;
 mod to_fit;
 mod to_span;
 
-pub use one_step::{behind, first_floor, is_end, next};
+pub use one_step::{behind, first_floor, next};
 use rules::{Addr, Hole, Place};
-pub use to_end::{adds_up, is_all_free, is_sound, walk};
+pub use settled::Sound;
+pub use to_end::{add_up, finish, sound};
 pub use to_fit::{candidate, first_fit};
 pub use to_span::neighbours;
 
-// What a step finds: a hole and the place of the next head, no further hole, or a broken rule.
+// What a step finds, where there is a further hole: the hole, and the place of the next head.
 #[derive(Clone, Copy)]
-pub enum Step {
-    At(Hole, Place),
-    End,
-    Bad,
+pub struct Step {
+    pub hole: Hole,
+    pub next: Place,
 }
 
 // Two places: of a hole, and of the hole before it, none where it is the first.
@@ -40,14 +41,6 @@ pub struct Fit {
     pub total: u64,
 }
 
-// What the search for a hole finds: the first that suits, that none does, or a broken rule.
-#[derive(Clone, Copy)]
-pub enum Search {
-    At(Fit),
-    Nowhere { count: u64, total: u64 },
-    Bad,
-}
-
 // Where a span lies among the holes: behind `prev` and before `hole`, where these are; the floor
 // behind the one and the sum of the sizes up to it.
 #[derive(Clone, Copy)]
@@ -55,18 +48,4 @@ pub struct Near {
     pub cursor: Cursor,
     pub floor: Addr,
     pub total: u64,
-}
-
-// What the search for a span's neighbours finds.
-#[derive(Clone, Copy)]
-pub enum Spot {
-    Between(Near),
-    Bad,
-}
-
-// What a walk to the end finds: the sum of the sizes, or a broken rule.
-#[derive(Clone, Copy)]
-pub enum Walked {
-    Good { total: u64 },
-    Bad,
 }

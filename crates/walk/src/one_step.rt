@@ -3,21 +3,22 @@ ghost use Rattle.std.specs.Prelude.{◌≡◌, ◌≤◌};
 ghost use Rattle.rules.specs.Fixed.{addr_limit};
 ghost use Rattle.rules.specs.Holes as Holes;
 ghost use Rattle.rules.specs.Inner as Inner;
-ghost use Rattle.rules.specs.Inner.{Fair, Lent};
-ghost use Rattle.walk.specs.Walk.{start_of, last_of, step_of, is_end};
+ghost use Rattle.walk.specs.Walk.{start_of, last_of, step_of};
 
 use crate::Step;
 use hole::{addr_of, place_of, read_head};
-use rules::{Addr, GRAIN, Heap, Hole, MIN_SIZE, NONE, Place};
+use numbers::Loan;
+use rules::{Addr, GRAIN, Hole, MIN_SIZE, NONE, Place, Refusal};
 
 // The floor of the first head: bottom if it lies there, else 16 bytes on, so that 0 or at least 16
 // bytes are left before it.
-pub fn first_floor(h: Heap) -> Addr
-    requires { Fair h }
-    ensures { result ≡ start_of h }
+#[tactic(auto, unfolding(crate::specs::Walk::start_of))]
+pub fn first_floor(loan: Loan<'_>) -> Addr
+    ensures { result ≡ start_of loan.entry.heap }
 {
+    let h = loan.heap;
     let bottom = h.bottom;
-    if h.first.0 == place_of(h.base, bottom).0 {
+    if h.first == place_of(h.base, bottom) {
         return bottom;
     }
     Addr(bottom.0 + MIN_SIZE)
@@ -32,61 +33,52 @@ pub fn behind(hole: Hole) -> Addr
 }
 
 // Behind the last head 0 or at least 16 bytes are left.
-fn last(h: Heap, floor: Addr) -> Step
-    requires { Fair h }
-    ensures { result ≡ last_of h floor }
+#[tactic(auto, unfolding(crate::specs::Walk::last_of, rules::specs::Inner::ends))]
+fn last(loan: Loan<'_>, floor: Addr) -> Result<Option<Step>, Refusal>
+    ensures { result ≡ last_of loan.entry.heap floor }
 {
-    let top = h.top.0;
-    if floor.0 <= top {
-        return Step::End;
+    let top = loan.heap.top;
+    if floor <= top {
+        return Ok(None);
     }
-    if floor.0 == top + MIN_SIZE {
-        return Step::End;
+    if floor == Addr(top.0 + MIN_SIZE) {
+        return Ok(None);
     }
-    Step::Bad
+    Err(Refusal::NotSound)
 }
 
-// What stands at a place, the next hole lying nowhere below the floor. The tests are joined where a
-// head costs fewer instructions so: a place within reach is not none, and two multiples of 8 are tested
-// as one, by their `|`.
-pub fn next(h: Heap, arena: &[u8], at: Place, floor: Addr) -> Step
-    requires { Lent h arena.now }
-    ensures { result ≡ step_of h arena.now at floor }
+// What stands at a place, the next hole lying nowhere below the floor: a hole, no further hole, or a
+// broken rule. The tests are joined where a head costs fewer instructions so: a place within reach is not
+// none, and two multiples of 8 are tested as one, by their `|`.
+pub fn next(loan: Loan<'_>, at: Place, floor: Addr) -> Result<Option<Step>, Refusal>
+    ensures { result ≡ step_of loan.entry.heap loan.entry.arena.now at floor }
 {
-    let base = h.base;
-    let top = h.top;
+    let base = loan.heap.base;
+    let top = loan.heap.top;
     if place_of(base, top).0 - MIN_SIZE < at.0 {
-        if at.0 == NONE {
-            return last(h, floor);
+        if at == NONE {
+            return last(loan, floor);
         }
-        return Step::Bad;
+        return Err(Refusal::NotSound);
     }
-    let head = read_head(arena, at);
+    let head = read_head(loan.arena, at);
     let addr = addr_of(base, at);
     let size = head.size;
-    if addr.0 < floor.0 {
-        return Step::Bad;
+    if addr < floor {
+        return Err(Refusal::NotSound);
     }
     if (addr.0 | size) % GRAIN != 0 {
-        return Step::Bad;
+        return Err(Refusal::NotSound);
     }
     if size < MIN_SIZE {
-        return Step::Bad;
+        return Err(Refusal::NotSound);
     }
     if top.0 - addr.0 < size {
-        return Step::Bad;
+        return Err(Refusal::NotSound);
     }
     let next = head.next;
-    Step::At(Hole { addr, size }, next)
-}
-
-// A step that found no hole has come to the end, and to no broken rule.
-pub fn is_end(st: Step) -> bool
-    ensures { result ≡ is_end st }
-{
-    match st {
-        Step::At(_, _) => false,
-        Step::End => true,
-        Step::Bad => false,
-    }
+    Ok(Some(Step {
+        hole: Hole { addr, size },
+        next,
+    }))
 }

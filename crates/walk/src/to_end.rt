@@ -1,66 +1,60 @@
 // The walk to the end, and the rule that the sizes of all holes add up.
-ghost use Rattle.std.specs.Prelude.{◌≡◌, ℕ, ◌+◌, ◌≤◌, eqb};
+ghost use Rattle.std.specs.Prelude.{◌≡◌, ℕ, ◌+◌, ◌≤◌};
 ghost use Rattle.rules.specs.Fixed.{min_size};
 ghost use Rattle.rules.specs.Holes.{holes_from};
-ghost use Rattle.rules.specs.Sound.{size, sound_holes, holes};
-ghost use Rattle.rules.specs.Inner.{Fair, Lent};
-ghost use Rattle.walk.specs.Walk.{Enough, walked_of, adds_up};
+ghost use Rattle.rules.specs.Sound.{sound_holes, holes};
+ghost use Rattle.walk.specs.Walk.{Enough, walked_of, adds_up, all_free, or_5};
 
-use crate::{Step, Walked, behind, first_floor, is_end, next};
-use numbers::fair_size;
-use rules::{Addr, Heap, Place};
+use crate::{behind, first_floor, next};
+use numbers::{Loan, fair_size};
+use rules::{Addr, Place, Refusal};
 
 // Every head from a place on, behind a floor, with the sum of the sizes before them. However far the
 // list is read, the answer is that of its holes.
-pub fn walk(h: Heap, arena: &[u8], from: Place, low: Addr, before: u64) -> Walked
-    requires { Lent h arena.now × (h.bottom.0 + before ≤ low.0) × (low.0 ≤ h.top.0 + min_size) }
-    ensures { (n : ℕ) → Enough h low n → result ≡ walked_of h low before (holes_from n h.base arena.now from) }
+fn walk(loan: Loan<'_>, from: Place, low: Addr, before: u64) -> Result<u64, Refusal>
+    requires { (loan.heap.bottom.0 + before ≤ low.0) × (low.0 ≤ loan.heap.top.0 + min_size) }
+    ensures { (n : ℕ) → Enough loan.entry.heap low n → result ≡ walked_of loan.entry.heap low before (holes_from n loan.entry.heap.base loan.entry.arena.now from) }
 {
     let mut at = from;
     let mut floor = low;
     let mut total = before;
-    loop {
-        let st = next(h, arena, at, floor);
-        let Step::At(hole, next) = st else {
-            if is_end(st) {
-                return Walked::Good { total };
-            }
-            return Walked::Bad;
-        };
+    while let Some(step) = next(loan, at, floor)? {
+        let hole = step.hole;
         total += hole.size;
         floor = behind(hole);
-        at = next;
+        at = step.next;
     }
+    Ok(total)
 }
 
-// A sum of sizes is size − used: all that is free.
-pub fn is_all_free(h: Heap, total: u64) -> bool
-    requires { Fair h }
-    ensures { result ≡ eqb (total + h.used) (size h) }
+// A sum of sizes is size − used: all that is free. Else 5.
+pub fn add_up(loan: Loan<'_>, total: u64) -> Result<(), Refusal>
+    ensures { result ≡ or_5 (all_free loan.entry.heap total) }
 {
-    let size = fair_size(h);
-    if size < h.used {
-        return false;
+    let used = loan.heap.used;
+    let size = fair_size(loan.heap);
+    if size < used {
+        return Err(Refusal::NotSound);
     }
-    total == size - h.used
+    if total != size - used {
+        return Err(Refusal::NotSound);
+    }
+    Ok(())
 }
 
-// A walk to the end found every rule kept, and the sum of the sizes is size − used.
-pub fn adds_up(h: Heap, walked: Walked) -> bool
-    requires { Fair h }
-    ensures { result ≡ adds_up h walked }
+// Finishes a walk: the holes from a place on keep every rule too, and the sizes of all add up. Else 5.
+pub fn finish(loan: Loan<'_>, from: Place, low: Addr, before: u64) -> Result<(), Refusal>
+    requires { (loan.heap.bottom.0 + before ≤ low.0) × (low.0 ≤ loan.heap.top.0 + min_size) }
+    ensures { (n : ℕ) → Enough loan.entry.heap low n → result ≡ or_5 (adds_up loan.entry.heap (walked_of loan.entry.heap low before (holes_from n loan.entry.heap.base loan.entry.arena.now from))) }
 {
-    let Walked::Good { total } = walked else {
-        return false;
-    };
-    is_all_free(h, total)
+    let total = walk(loan, from, low, before)?;
+    add_up(loan, total)
 }
 
-// The heap's holes keep every rule.
-pub fn is_sound(h: Heap, arena: &[u8]) -> bool
-    requires { Lent h arena.now }
-    ensures { result ≡ sound_holes h (holes h arena.now) }
+// The heap's holes keep every rule. Else 5.
+pub fn sound(loan: Loan<'_>) -> Result<(), Refusal>
+    ensures { result ≡ or_5 (sound_holes loan.entry.heap (holes loan.entry.heap loan.entry.arena.now)) }
 {
-    let first = h.first;
-    adds_up(h, walk(h, arena, first, first_floor(h), 0))
+    let first = loan.heap.first;
+    finish(loan, first, first_floor(loan), 0)
 }

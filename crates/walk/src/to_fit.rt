@@ -4,13 +4,13 @@ ghost use Rattle.rules.specs.Fixed.{addr_limit, min_size};
 ghost use Rattle.rules.specs.Round.{Power};
 ghost use Rattle.rules.specs.Allocate as Allocate;
 ghost use Rattle.rules.specs.Sound.{holes};
-ghost use Rattle.rules.specs.Inner.{Lent};
 ghost use Rattle.walk.specs.Walk.{search_of};
-ghost use Rattle.walk.specs.Settled.{Asked};
 
-use crate::{Cursor, Fit, Search, Step, behind, first_floor, is_end, next};
+use crate::{Cursor, Fit, add_up, behind, first_floor, next};
 use align::{align_up, offset};
-use rules::{Addr, Heap, Hole, MIN_SIZE, NONE, Place};
+use layout::Layout;
+use numbers::Loan;
+use rules::{Addr, Hole, MIN_SIZE, NONE, Refusal};
 
 // Where a block of the alignment would start in a hole at an address.
 pub fn candidate(addr: Addr, align: u64) -> Addr
@@ -24,16 +24,17 @@ pub fn candidate(addr: Addr, align: u64) -> Addr
 }
 
 // The rounded size fits in the hole, and what remains behind is 0 or at least 16.
-fn suits(hole: Hole, want: u64, align: u64) -> bool
-    requires { Asked want align × (hole.addr.0 + hole.size ≤ addr_limit) × (min_size ≤ hole.size) }
-    ensures { result ≡ Allocate.suits want align hole }
+fn suits(hole: Hole, layout: Layout) -> bool
+    requires { (hole.addr.0 + hole.size ≤ addr_limit) × (min_size ≤ hole.size) }
+    ensures { result ≡ Allocate.suits layout.size layout.align hole }
 {
+    let want = layout.size;
     let size = hole.size;
     if size < want {
         return false;
     }
     let addr = hole.addr;
-    let stop = candidate(addr, align).0 + want;
+    let stop = candidate(addr, layout.align).0 + want;
     let end = addr.0 + size;
     if end < stop {
         return false;
@@ -44,45 +45,41 @@ fn suits(hole: Hole, want: u64, align: u64) -> bool
     stop + MIN_SIZE <= end
 }
 
-// The first hole that suits: the walk stops there and yields that hole.
-pub fn first_fit(h: Heap, arena: &[u8], want: u64, align: u64) -> Search
-    requires { Lent h arena.now × Asked want align }
-    ensures { result ≡ search_of h want align (holes h arena.now) }
+// The first hole that suits: the walk stops there and yields that hole. None does: 7, if the sizes of all
+// add up. Kept out of its callers, its loop has the registers to itself: a head costs fewer instructions.
+#[inline(never)]
+pub fn first_fit(loan: Loan<'_>, layout: Layout) -> Result<Fit, Refusal>
+    ensures { result ≡ search_of loan.entry.heap layout.size layout.align (holes loan.entry.heap loan.entry.arena.now) }
 {
-    let first = h.first;
+    let first = loan.heap.first;
     let mut cursor = Cursor {
-        prev: Place(NONE),
+        prev: NONE,
         hole: first,
     };
-    let mut floor = first_floor(h);
-    let mut after = Place(NONE);
+    let mut floor = first_floor(loan);
     let mut total: u64 = 0;
     let mut count: u64 = 0;
     let found = loop {
-        let at = cursor.hole;
-        let st = next(h, arena, at, floor);
-        let Step::At(hole, next) = st else {
-            if is_end(st) {
-                return Search::Nowhere { count, total };
-            }
-            return Search::Bad;
+        let Some(step) = next(loan, cursor.hole, floor)? else {
+            add_up(loan, total)?;
+            return Err(Refusal::NoRoom { holes: count });
         };
+        let hole = step.hole;
         total += hole.size;
         count += 1;
-        after = next;
-        if suits(hole, want, align) {
-            break hole;
+        if suits(hole, layout) {
+            break step;
         }
         floor = behind(hole);
         cursor = Cursor {
-            prev: at,
-            hole: next,
+            prev: cursor.hole,
+            hole: step.next,
         };
     };
-    Search::At(Fit {
+    Ok(Fit {
         cursor,
-        hole: found,
-        next: after,
+        hole: found.hole,
+        next: found.next,
         count,
         total,
     })

@@ -1,44 +1,36 @@
 // The walk to the neighbours of a span.
 ghost use Rattle.std.specs.Prelude.{◌≡◌};
 ghost use Rattle.rules.specs.Sound.{holes};
-ghost use Rattle.rules.specs.Inner.{Lent};
 ghost use Rattle.walk.specs.Walk.{near_of};
 
-use crate::{Cursor, Near, Spot, Step, behind, first_floor, is_end, next};
-use rules::{Addr, Heap, NONE, Place};
+use crate::{Cursor, Near, behind, first_floor, next};
+use numbers::Loan;
+use rules::{Addr, NONE, Refusal};
 
 // The last hole that lies at or before an address, and the first that lies beyond it.
-pub fn neighbours(h: Heap, arena: &[u8], addr: Addr) -> Spot
-    requires { Lent h arena.now }
-    ensures { result ≡ near_of h addr (holes h arena.now) }
+pub fn neighbours(loan: Loan<'_>, addr: Addr) -> Result<Near, Refusal>
+    ensures { result ≡ near_of loan.entry.heap addr (holes loan.entry.heap loan.entry.arena.now) }
 {
-    let first = h.first;
+    let first = loan.heap.first;
     let mut cursor = Cursor {
-        prev: Place(NONE),
+        prev: NONE,
         hole: first,
     };
-    let mut floor = first_floor(h);
+    let mut floor = first_floor(loan);
     let mut total: u64 = 0;
-    loop {
-        let at = cursor.hole;
-        let st = next(h, arena, at, floor);
-        let Step::At(hole, next) = st else {
-            if is_end(st) {
-                break;
-            }
-            return Spot::Bad;
-        };
-        if addr.0 < hole.addr.0 {
+    while let Some(step) = next(loan, cursor.hole, floor)? {
+        let hole = step.hole;
+        if addr < hole.addr {
             break;
         }
         total += hole.size;
         floor = behind(hole);
         cursor = Cursor {
-            prev: at,
-            hole: next,
+            prev: cursor.hole,
+            hole: step.next,
         };
     }
-    Spot::Between(Near {
+    Ok(Near {
         cursor,
         floor,
         total,

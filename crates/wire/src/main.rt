@@ -1,160 +1,86 @@
 // The wire program: calls on standard input, a frame a line, answers on standard output. It holds a
 // zeroed arena of 65,536 bytes. What a line means is `lines::answer_line`'s promise, and how bytes are
-// cut into lines and answers queued is `talk::hear`'s. Here bytes are read, and what waits is written,
+// cut into lines and answers queued is `Talk::hear`'s. Here bytes are read, and what waits is written,
 // in memory that does not grow with the input.
 #![tactic(auto)]
 
-ghost use Rattle.std.specs.Prelude.{◌≡◌, true, ◌≤◌, take};
-ghost use Rattle.talk.specs.Hearing.{answers_room, come, heard, taken};
-ghost use Rattle.wire.specs.Bounds.{Settled};
+ghost use Rattle.std.specs.Prelude.{◌≡◌, OnOk};
+ghost use Rattle.std.specs.Io.KnownBytes.{Appends};
+ghost use Rattle.talk.specs.Hearing.{come, taken};
+ghost use Rattle.wire.specs.Bounds.{ended, Said, Settled, Talked, Took};
 
-use lines::{ARENA, LONGEST};
-use std::io::{Read, Stdin, Stdout};
-use talk::{KEPT, Talk, WAITING, answer, hear};
+use std::io::{self, Read, Write};
+use talk::Talk;
 
 // The bytes taken by one read, at most.
 const INPUT: usize = 65_536;
 
-// The talk, and whether the output took every answer that it was given.
-#[derive(Clone, Copy)]
-struct Answered {
-    talk: Talk,
-    taken: bool,
-}
-
-// The talk, and whether it goes on: the input may hold more, and the output took every answer.
-#[derive(Clone, Copy)]
-struct Turn {
-    talk: Talk,
-    more: bool,
-    taken: bool,
-}
-
-// Hands answers to the output, and says whether it took them. They are all that wait, no more and no less.
-fn write_out(out: Stdout, t: Talk, waiting: &[u8], answers: &[u8]) -> bool
-    requires { answers.now ≡ take t.waits waiting.now }
+// Writes what waits, no more and no less. What the output does not take is lost.
+fn flush<W: Write>(talk: &mut Talk, out: &mut W) -> io::Result<()>
+    ensures rest { come talk.new ≡ taken (come talk.old) }
+    ensures written { OnOk result (Appends (W.contents out.old) (W.contents out.new) talk.old.waits.items) }
 {
-    out.write_all(answers).is_ok()
-}
-
-// Writes what waits.
-fn flush(out: Stdout, t: Talk, waiting: &[u8; WAITING]) -> bool
-    requires { t.waits ≤ answers_room }
-{
-    let n = t.waits;
-    let all: &[u8] = waiting;
-    write_out(out, t, all, &all[0..n])
+    let written = out.write_all(&talk.waits);
+    talk.waits.clear();
+    written
 }
 
 // Hears bytes to their end, and writes the answers whenever one more might not find room. It stops
 // where the output does not take them.
-fn answer_all(
-    out: Stdout,
-    first: Talk,
-    bytes: &[u8],
-    arena: &mut [u8; ARENA],
-    line: &mut [u8; KEPT],
-    reply: &mut [u8; LONGEST],
-    waiting: &mut [u8; WAITING],
-) -> Answered
-    requires { Settled first }
-    ensures { Settled result.talk × (result.taken ≡ true → taken (come result.talk arena.new line.new waiting.new) ≡ taken (heard bytes.now (come first arena.old line.old waiting.old))) }
+fn answer_all<W: Write>(talk: &mut Talk, out: &mut W, bytes: &[u8]) -> io::Result<()>
+    requires { Settled talk.old }
+    ensures settled { Settled talk.new }
+    ensures said { OnOk result (Said (come talk.old) bytes.now (W.contents out.old) (W.contents out.new) (come talk.new)) }
 {
-    let mut t = first;
-    let mut at: usize = 0;
-    while at < bytes.len() {
-        let h = hear(t, bytes, at, arena, line, reply, waiting);
-        at = h.to;
-        let talk = h.talk;
-        t = Talk { waits: 0, ..talk };
-        if !flush(out, talk, waiting) {
-            return Answered {
-                talk: t,
-                taken: false,
-            };
+    let mut rest = bytes;
+    while !rest.is_empty() {
+        rest = talk.hear(rest);
+        flush(talk, out)?;
+    }
+    Ok(())
+}
+
+// Reads to the end of the input, and answers every whole line that has come before it waits for more. A
+// proved loop has to end, and nothing says that the input does: the reads are counted, up to a number
+// that no run reaches.
+fn answer_input<R: Read, W: Write>(talk: &mut Talk, from: &mut R, out: &mut W) -> io::Result<()>
+    requires { Settled talk.old }
+    ensures { OnOk result (Took (come talk.old) (R.remaining from.old) (R.remaining from.new) (W.contents out.old) (W.contents out.new)
+        (come talk.new)) }
+{
+    let mut input = [0; INPUT];
+    for _ in 0..u64::MAX {
+        let n = from.read(&mut input)?;
+        if n == 0 {
+            return Ok(());
         }
+        answer_all(talk, out, &input[..n])?;
     }
-    Answered {
-        talk: t,
-        taken: true,
-    }
+    Ok(())
 }
 
-// Reads once, and answers every whole line that has come before it waits for more. A line that a failed
-// read cuts off is not answered: nothing says that it has ended.
-fn read_once(
-    mut from: Stdin,
-    out: Stdout,
-    t: Talk,
-    input: &mut [u8; INPUT],
-    arena: &mut [u8; ARENA],
-    line: &mut [u8; KEPT],
-    reply: &mut [u8; LONGEST],
-    waiting: &mut [u8; WAITING],
-) -> Turn
-    requires { Settled t }
-    ensures { Settled result.talk }
+// Answers what is kept at the end: the last line may lack its LF.
+fn answer_last<W: Write>(talk: &mut Talk, out: &mut W) -> io::Result<()>
+    requires { Settled talk.old }
+    ensures { OnOk result (Appends (W.contents out.old) (W.contents out.new) (ended (come talk.old)).waits) }
 {
-    let Ok(n) = from.read(input) else {
-        return Turn {
-            talk: Talk { kept: 0, ..t },
-            more: false,
-            taken: true,
-        };
-    };
-    if n == 0 {
-        return Turn {
-            talk: t,
-            more: false,
-            taken: true,
-        };
+    if !talk.kept.is_empty() {
+        talk.answer();
     }
-    let all: &[u8] = input;
-    let answered = answer_all(out, t, &all[0..n], arena, line, reply, waiting);
-    let talk = answered.talk;
-    Turn {
-        talk,
-        more: true,
-        taken: answered.taken,
-    }
+    flush(talk, out)
 }
 
-// A proved loop has to end, and nothing says that the input does: the turns are counted down from a
-// number that no run uses up.
+// All that is read is answered. A line that a failed read cuts off is not: nothing says that it has ended.
+fn talk_on<R: Read, W: Write>(talk: &mut Talk, from: &mut R, out: &mut W) -> io::Result<()>
+    requires { Settled talk.old }
+    ensures { OnOk result (Talked (come talk.old) (R.remaining from.old) (R.remaining from.new) (W.contents out.old) (W.contents out.new)) }
+{
+    answer_input(talk, from, out)?;
+    answer_last(talk, out)
+}
+
+// An input that fails and an output that takes no more end the program as the input's end does.
 fn main(rt: HostRuntime) {
-    let mut input = [0u8; INPUT];
-    let mut arena = [0u8; ARENA];
-    let mut line = [0u8; KEPT];
-    let mut reply = [0u8; LONGEST];
-    let mut waiting = [0u8; WAITING];
-    let mut t = Talk {
-        heap: open::empty(),
-        kept: 0,
-        waits: 0,
-    };
-    let mut goes_on = true;
-    let mut taken = true;
-    let mut turns = u64::MAX;
-    while turns > 0 && goes_on {
-        let r = read_once(
-            rt.stdin(),
-            rt.stdout(),
-            t,
-            &mut input,
-            &mut arena,
-            &mut line,
-            &mut reply,
-            &mut waiting,
-        );
-        let talk = r.talk;
-        t = talk;
-        taken = r.taken;
-        goes_on = r.more && r.taken;
-        turns -= 1;
-    }
-    // The last line may lack its LF.
-    if t.kept > 0 && taken {
-        let last = answer(t, &mut arena, &line, &mut reply, &mut waiting);
-        flush(rt.stdout(), last, &waiting);
-    }
+    let mut talk = Talk::new(open::empty());
+    let _ = talk_on(&mut talk, &mut rt.stdin(), &mut rt.stdout());
 }

@@ -1,28 +1,21 @@
--- `extend::decide` meets its contract: the tests in front refuse, or earn the bytes behind top what they ask. Assumes nothing.
-use mathlib.Core.Path.{refl}
+-- `extend::decide` meets its contract: the tests in front refuse, or the bytes behind top decide. Assumes nothing.
+use Rattle.std.proofs.Common.{refl}
 use Rattle.rules.specs.Calls.{extend}
+use Rattle.rules.proofs.Cases.{handed_on}
 use Rattle.rules.proofs.Calls.{extend_on}
 use Rattle.rules.proofs.Written.{fulfils_left}
-use Rattle.numbers.proofs.Verdicts.{tested, tested_no}
+use Rattle.numbers.proofs.Verdicts.{fulfils_no, lends_numbers}
 use Rattle.extend.proofs.decide.Goals as goal
 
-pub returns-in-No : goal.returns-in-No
-returns-in-No c = rw c.refuse.ensures
-    (tested_no c.args.h c.args.arena.now c.arena_len.ensures.0 c.check-checked.ensures (extend c.args.by) refl
-    c.in-No.is)
-
-pub extend_top-requires : goal.extend_top-requires
-extend_top-requires c =
-    record {
-      lent = (tested c.args.h c.args.arena.now c.arena_len.ensures.0 c.check-checked.ensures
-          c.in_default.is).lent;
-      bytes = c.arena_len.ensures.1;
-    }
+pub returns-in_err-loan : goal.returns-in_err-loan
+returns-in_err-loan c =
+    rw (handed_on c.from_residual.ensures.1) (fulfils_no (extend c.args.by) c.args.h c.args.arena.now refl c.in_err-loan.ensures)
 
 pub returns : goal.returns
-returns c = fulfils_left (extend c.args.by) c.args.h c.args.arena.now _
-    (extend_on c.args.h c.args.arena.now
-    (tested c.args.h c.args.arena.now c.arena_len.ensures.0 c.check-checked.ensures c.in_default.is).lent.lent
-    (tested c.args.h c.args.arena.now c.arena_len.ensures.0 c.check-checked.ensures c.in_default.is).numbers
-    c.args.by)
-    c.extend_top.ensures
+returns c =
+    let l = c.in_ok-loan.loan in
+    let e = c.in_ok-loan.ensures in
+    rw (← e.heap, ← e.arena)
+    (fulfils_left (extend c.args.by) l.heap l.arena.now _
+    (extend_on l.heap l.arena.now l.ready.lent.lent (lends_numbers e) c.args.by)
+    c.extend_top.ensures)

@@ -16,11 +16,6 @@ overflow_sub-left-2 c =
     rw (is_bottom c.args.base _ c.align_up-bottom.ensures)
     (omega (arith, (may_open c.args.len c.args.base c.args.named c.requires).room))
 
-pub overflow_add-result : goal.overflow_add-result
-overflow_add-result c =
-    let o = (may_open c.args.len c.args.base c.args.named c.requires) in
-    rw (is_bottom c.args.base _ c.align_up-bottom.ensures) (omega (arith, o.room, o.within, o.low))
-
 pub returns : goal.returns
 unfolding opened first_of
 returns c = rw (c.place_of-first.ensures, (is_bottom c.args.base _ c.align_up-bottom.ensures))

@@ -1,9 +1,9 @@
 -- What has come stays within the room.
-use Rattle.std.proofs.Common.{length, ◌-◌, ◌≡◌, ◌≤◌}
+use Rattle.std.proofs.Common.{length, ◌-◌, ◌≤◌}
 use Rattle.replay.proofs.read_full.Given as goal
 
-abbrev pub invariant-loop-n : goal.invariant-loop-n
-invariant-loop-n l = (l.n ≤ length l.room) × (length l.room ≡ length l.initial.room)
+abbrev pub invariant-loop-got : goal.invariant-loop-got
+invariant-loop-got g l = l.n ≤ length l.room
 
-abbrev pub decreases-loop-n : goal.decreases-loop-n
-decreases-loop-n l = length l.initial.room - l.n
+abbrev pub decreases-loop-got : goal.decreases-loop-got
+decreases-loop-got g l = length l.initial.room - l.n

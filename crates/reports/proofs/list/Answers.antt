@@ -1,64 +1,47 @@
 -- `reports::list` meets its contract: what its tests and its pass say is the answer, and `fill` fills the rows. Assumes nothing.
-use mathlib.Core.Path.{refl, sym, ◌∙◌}
-use native.Mathlib.Omega.{arith}
+use Rattle.std.proofs.Common.{refl, sym, ◌∙◌, arith}
+use Rattle.std.specs.Int.Count.{ones_in}
 use Rattle.rules.specs.Calls.{list}
-use Rattle.rules.proofs.Calls.{answer_refused, answer_told, rows_refused, rows_told}
-use Rattle.numbers.proofs.Verdicts.{Tested, tested}
-use Rattle.reports.proofs.Gathered.{survey_says, report_no, list_broken, list_told, used_fits}
+use Rattle.rules.proofs.Cases.{handed_on}
+use Rattle.rules.proofs.Calls.{answer_told, rows_told}
+use Rattle.numbers.proofs.Verdicts.{refuses_call}
+use Rattle.reports.proofs.Gathered.{refused_list, survey_says, list_broken, list_told, used_fits}
 use Rattle.reports.proofs.list.Goals as goal
 
-pub returns-in-No : goal.returns-in-No
-returns-in-No c =
+pub returns-in_err-loan : goal.returns-in_err-loan
+returns-in_err-loan c =
     let s = c.args in
-    let e = report_no _ _ list refl c.arena_len.ensures.0 c.check-checked.ensures c.in-No.is in
-    (sym (answer_refused list s.h s.arena.now _ e), sym (rows_refused list s.h s.arena.now _ _ e))
+    rw (handed_on c.from_residual.ensures.1)
+    (refused_list s.h s.arena.now _ (refuses_call list s.h s.arena.now refl (rw c.in_err-loan.was at c.lend.ensures)))
 
-pub survey-found-requires : goal.survey-found-requires
-survey-found-requires c =
-    let t : Tested c.args.h c.args.arena.now = tested _ _ c.arena_len.ensures.0 c.check-checked.ensures
-    c.in_default.is in
-    (t.lent, record { power = record { exponent = 0; is = refl }; least = omega arith; room = omega arith })
+pub invariant_of-smallest : goal.invariant_of-smallest
+unfolding ones_in
+invariant_of-smallest c = record { asked = record { power = refl; least = omega arith; room = omega arith } }
 
-pub returns-in_default-found : goal.returns-in_default-found
-returns-in_default-found c =
-    let t : Tested c.args.h c.args.arena.now = tested _ _ c.arena_len.ensures.0 c.check-checked.ensures
-    c.in_default.is in
+pub returns-in_err-found : goal.returns-in_err-found
+returns-in_err-found c =
     let s = c.args in
-    let e = list_broken _ _ t (survey_says _ _ 1 c.survey-found.ensures c.in_default-found.is) in
-    (sym (answer_refused list s.h s.arena.now _ e), sym (rows_refused list s.h s.arena.now _ _ e))
+    rw (handed_on c.from_residual-in_err-found.ensures.1)
+    (refused_list s.h s.arena.now _ (list_broken s.h s.arena.now c.in_ok-loan.ensures _ c.survey.ensures c.in_err-found.was))
 
-pub fill-requires : goal.fill-requires
-fill-requires c =
-    let t : Tested c.args.h c.args.arena.now = tested _ _ c.arena_len.ensures.0 c.check-checked.ensures
-    c.in_default.is in
-    let known = c.shared_slice_known-1 in
-    record {
-      ready = record { lent = t.lent; bytes = λ j. (known.given j).fits };
-      sound = (survey_says _ _ 1 c.survey-found.ensures c.in-Of.is).0;
-    }
-
-pub fair_size-requires : goal.fair_size-requires
-fair_size-requires c =
-    let t : Tested c.args.h c.args.arena.now = tested _ _ c.arena_len.ensures.0 c.check-checked.ensures
-    c.in_default.is in
-    let f = t.lent.fair in
-    omega arith
+pub invariant_of-fill : goal.invariant_of-fill
+invariant_of-fill c =
+    let l = c.in_ok-loan.loan in
+    let sound = (survey_says l.heap l.arena.now _ c.survey.ensures c.in_ok-found.was).0 in
+    record { settled = record { ready = l.ready; sound = sound } }
 
 pub overflow_sub-result : goal.overflow_sub-result
 overflow_sub-result c =
-    let t : Tested c.args.h c.args.arena.now = tested _ _ c.arena_len.ensures.0 c.check-checked.ensures
-    c.in_default.is in
-    let u = used_fits _ _ t.lent (survey_says _ _ 1 c.survey-found.ensures c.in-Of.is).0 in
+    let l = c.in_ok-loan.loan in
+    let u = used_fits l (survey_says l.heap l.arena.now _ c.survey.ensures c.in_ok-found.was).0 in
+    let u = rw c.in_ok-loan.ensures.heap at u in
     omega (arith, c.fair_size.ensures)
 
 pub returns : goal.returns
 returns c =
-    let t : Tested c.args.h c.args.arena.now = tested _ _ c.arena_len.ensures.0 c.check-checked.ensures
-    c.in_default.is in
-    let filled = c.fill.ensures in
     let s = c.args in
-    let e = list_told _ _ t 1 (survey_says _ _ 1 c.survey-found.ensures c.in-Of.is) in (
+    let e = list_told s.h s.arena.now c.in_ok-loan.ensures _ c.survey.ensures c.in_ok-found.was in (
       rw c.fair_size.ensures (sym (answer_told list s.h s.arena.now _ _ e)),
-      filled ∙ sym
-          (rows_told list s.h s.arena.now _ _ _ e),
+      rw (c.in_ok-loan.ensures.heap, c.in_ok-loan.ensures.arena) at c.fill.ensures
+          ∙ sym (rows_told list s.h s.arena.now _ _ _ e),
     )

@@ -1,21 +1,20 @@
 -- `wire::answer_all` meets its contract. Assumes nothing.
-use mathlib.Core.Path.{ap}
-use borrow.Author.Rules.{rules}
-use native.Mathlib.Omega.{arith}
-use Rattle.talk.specs.Hearing.{come, taken}
-use Rattle.talk.proofs.Hearing.{heard_none, taken_on}
+use mathlib.Core.List.{[], ◌++◌}
+use mathlib.Core.Path.{refl}
+use Rattle.talk.specs.Hearing.{come}
+use Rattle.talk.proofs.Hearing.{cut_next}
+use Rattle.wire.proofs.Said.{said_none, said_more}
 use Rattle.wire.proofs.answer_all.Goals as goal
 
-pub loop-at-init : goal.loop-at-init
-loop-at-init c = (omega arith, c.requires, ap taken (heard_none 0 c.args.bytes.now _))
+pub loop-rest-init : goal.loop-rest-init
+loop-rest-init g c = record { front = []; cut = refl; said = said_none _ _ c.requires }
 
-pub loop-at-preserved : goal.loop-at-preserved
-loop-at-preserved c =
-    let h = c.hear-h in
-    let s = c.loop-at in
-    let a = c.args in (
-      h.ensures.to,
-      search rules,
-      taken_on s.at h.result.to a.bytes.now (come a.first a.arena.now a.line.now a.waiting.now) _ _ h.ensures.from
-          s.invariant.2 h.ensures.comes,
-    )
+pub loop-rest-preserved : goal.loop-rest-preserved
+loop-rest-preserved g c =
+    let i = c.loop-rest.invariant in
+    let h = c.hear-rest.ensures in
+    record {
+      front = i.front ++ h.front;
+      cut = cut_next _ i.front h.front _ _ i.cut h.cut;
+      said = rw c.flush.ensures.rest (said_more _ _ (come c.hear-rest.new.self) i.front h.front _ _ _ i.said h.comes c.in_ok-flush.ensures.written);
+    }

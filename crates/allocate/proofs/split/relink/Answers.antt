@@ -1,13 +1,12 @@
--- `allocate::split::relink` meets its contract: its two returns are the cases of the definition. Assumes nothing.
-use mathlib.Core.Path.{◌∙◌}
-use borrow.Author.Tests.{eq-eqb, ne_eqb}
+-- `allocate::split::relink` meets its contract: its arms are the cases of the definition. Assumes nothing.
+use Rattle.std.proofs.Common.{◌∙◌}
 use Rattle.allocate.specs.Granted.{split_to}
 use Rattle.allocate.proofs.split.relink.Goals as goal
 
-pub returns-then-at : goal.returns-then-at
+pub returns-in-None : goal.returns-in-None
 unfolding split_to
-returns-then-at c = c.link.ensures ∙ rw (eq-eqb _ _ c.if-at.true)
+returns-in-None c = c.link.ensures ∙ rw c.in-None.is
 
-pub returns : goal.returns
+pub returns-in-Some : goal.returns-in-Some
 unfolding split_to
-returns c = rw (ne_eqb _ _ c.if-at.false)
+returns-in-Some c = rw c.in-Some.is

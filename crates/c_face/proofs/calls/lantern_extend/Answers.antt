@@ -3,11 +3,7 @@ use Rattle.rules.specs.Calls.{extend}
 use Rattle.c_face.proofs.Loaded.{shown}
 use Rattle.c_face.proofs.calls.lantern_extend.Goals as goal
 
-pub carry_out-requires : goal.carry_out-requires
-carry_out-requires c =
-    let e = c.decide-d.ensures in (e.heads.one, e.heads.two)
-
 pub returns : goal.returns
 returns c =
     let s = c.args in
-    shown s.heap.now c.load.ensures (extend s.by) s.arena.now c.decide-d.result c.decide-d.ensures c.carry_out.ensures
+    shown s.heap.now c.load.ensures (extend s.by) s.arena.now c.decide-d.ensures c.carry_out.ensures

@@ -5,14 +5,8 @@ use Rattle.rules.specs.Calls.{opening}
 use Rattle.c_face.proofs.Loaded.{shown}
 use Rattle.c_face.proofs.calls.lantern_open.Goals as goal
 
-pub carry_out-requires : goal.carry_out-requires
-carry_out-requires c =
-    let s = c.args in
-    let e = c.decide-d.ensures s.arena.now (sym c.arena_len.ensures.0) in
-    (e.heads.one, e.heads.two)
-
 pub returns : goal.returns
 returns c =
     let s = c.args in
-    shown s.heap.now c.load.ensures (opening (addr s.base) s.named) s.arena.now c.decide-d.result
+    shown s.heap.now c.load.ensures (opening (addr s.base) s.named) s.arena.now
     (c.decide-d.ensures s.arena.now (sym c.arena_len.ensures.0)) c.carry_out.ensures

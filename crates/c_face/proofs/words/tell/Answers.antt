@@ -2,6 +2,4 @@
 use Rattle.c_face.proofs.words.tell.Goals as goal
 
 pub returns : goal.returns
-returns c =
-    let e = c.answer_numbers-t.ensures in
-    (rw e, rw e)
+returns c = let e = c.from-t.ensures in (rw e, rw e)

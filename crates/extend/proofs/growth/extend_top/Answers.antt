@@ -1,73 +1,81 @@
 -- `extend::growth::extend_top` meets its contract: the search from top and the sum decide the rules on the holes, the bytes that the
 -- arena has left refusal 9. Assumes nothing.
-use mathlib.Core.Path.{sym, ◌∙◌}
-use native.Mathlib.Omega.{arith}
+use Rattle.std.proofs.Common.{sym, ◌∙◌, arith}
 use Rattle.rules.specs.Sound.{holes}
 use Rattle.rules.specs.Inner.{extending}
+use Rattle.rules.proofs.Cases.{handed_on}
 use Rattle.rules.proofs.Written.{fulfils_broken}
-use Rattle.joining.proofs.Neighbours.{near_broken, seeks}
+use Rattle.walk.proofs.ToEnd.{or_5_kept, or_5_broken}
+use Rattle.joining.proofs.Neighbours.{Sought, near_broken}
 use Rattle.extend.proofs.Extending.{top_sound, top_free, Fits, past_is, gathers_is, grows_is}
 use Rattle.extend.proofs.growth.extend_top.Goals as goal
 
-pub returns-in_default : goal.returns-in_default
-returns-in_default c =
-    let h = c.args.h in
-    let m = c.args.arena.now in
-    rw c.refuse.ensures
-    (fulfils_broken h m (holes h m) (extending c.args.by h (holes h m))
-    (near_broken h m h.top c.requires.lent.fair c.neighbours-spot.ensures c.in_default.is))
+pub returns-in_err-near : goal.returns-in_err-near
+returns-in_err-near c =
+    let h = c.args.loan.heap in
+    let m = c.args.loan.arena.now in
+    let b = near_broken h m h.top c.args.loan.ready.lent.fair (sym c.neighbours.ensures ∙ c.in_err-near.was) in
+    rw (handed_on c.from_residual.ensures.1, b.0)
+    (fulfils_broken h m (holes h m) (extending c.args.by h (holes h m)) b.1)
 
-pub returns-then-not-is_all_free : goal.returns-then-not-is_all_free
-returns-then-not-is_all_free c =
-    let h = c.args.h in
-    let m = c.args.arena.now in
-    let k = seeks c.requires.lent.fair c.neighbours-spot.ensures c.in-Between.is in
-    rw c.refuse-then-not-is_all_free.ensures
-    (fulfils_broken h m (holes h m) (extending c.args.by h (holes h m))
-    (top_sound k ∙ sym c.is_all_free.ensures ∙ c.if-not-is_all_free.true))
-
-pub overflow_sub-room-2 : goal.overflow_sub-room-2
-overflow_sub-room-2 c =
-    let f = c.requires.lent.fair in omega arith
+pub returns-in_err-add_up : goal.returns-in_err-add_up
+returns-in_err-add_up c =
+    let h = c.args.loan.heap in
+    let m = c.args.loan.arena.now in
+    let k : Sought h m h.top c.in_ok-near.near =
+    record { fair = c.args.loan.ready.lent.fair; found = sym c.neighbours.ensures ∙ c.in_ok-near.was } in
+    let b = or_5_broken (sym c.add_up.ensures ∙ c.in_err-add_up.was) in
+    rw (handed_on c.from_residual-in_err-add_up.ensures.1, b.1)
+    (fulfils_broken h m (holes h m) (extending c.args.by h (holes h m)) (top_sound k ∙ b.0))
 
 pub returns-then-room-by : goal.returns-then-room-by
 returns-then-room-by c =
-    let f = c.requires.lent.fair in
-    let l = c.if-room-by.true in
-    let k = seeks c.requires.lent.fair c.neighbours-spot.ensures c.in-Between.is in
-    let sound = top_sound k ∙ sym c.is_all_free.ensures ∙ c.if-not-is_all_free.false in
-    rw c.refuse-then-room-by.ensures (past_is c.args.h c.args.arena.now c.args.by c.requires sound (omega arith))
-
-pub overflow_add-sum : goal.overflow_add-sum
-overflow_add-sum c =
-    let f = c.requires.lent.fair in
-    let l : Fits c.args.h c.args.by = omega (arith, c.if-room-by.false) in
-    omega arith
-
-pub gather-requires : goal.gather-requires
-gather-requires c = c.requires.lent.fair
+    let h = c.args.loan.heap in
+    let m = c.args.loan.arena.now in
+    let f = c.args.loan.ready.lent.fair in
+    let k : Sought h m h.top c.in_ok-near.near =
+    record { fair = c.args.loan.ready.lent.fair; found = sym c.neighbours.ensures ∙ c.in_ok-near.was } in
+    let sound = top_sound k ∙ or_5_kept (sym c.add_up.ensures ∙ c.in_ok-add_up.was) in
+    past_is h m c.args.by c.args.loan.ready sound (omega (arith, c.if-room-by.true))
 
 pub returns-then-sum-lt-MIN_SIZE : goal.returns-then-sum-lt-MIN_SIZE
 returns-then-sum-lt-MIN_SIZE c =
-    let f = c.requires.lent.fair in
-    let l : Fits c.args.h c.args.by = omega (arith, c.if-room-by.false) in
-    let k = seeks c.requires.lent.fair c.neighbours-spot.ensures c.in-Between.is in
-    let sound = top_sound k ∙ sym c.is_all_free.ensures ∙ c.if-not-is_all_free.false in
-    rw c.gather.ensures (gathers_is c.args.h c.args.arena.now c.args.by c.requires sound l c.if-sum-lt-MIN_SIZE.true)
+    let h = c.args.loan.heap in
+    let m = c.args.loan.arena.now in
+    let f = c.args.loan.ready.lent.fair in
+    let k : Sought h m h.top c.in_ok-near.near =
+    record { fair = c.args.loan.ready.lent.fair; found = sym c.neighbours.ensures ∙ c.in_ok-near.was } in
+    let sound = top_sound k ∙ or_5_kept (sym c.add_up.ensures ∙ c.in_ok-add_up.was) in
+    let l : Fits h c.args.by = omega (arith, c.if-room-by.false) in
+    rw c.gather.ensures (gathers_is h m c.args.by c.args.loan.ready sound l c.if-sum-lt-MIN_SIZE.true)
+
+pub invariant_of-grow : goal.invariant_of-grow
+invariant_of-grow c =
+    let h = c.args.loan.heap in
+    let m = c.args.loan.arena.now in
+    let k : Sought h m h.top c.in_ok-near.near =
+    record { fair = c.args.loan.ready.lent.fair; found = sym c.neighbours.ensures ∙ c.in_ok-near.was } in
+    let sound = top_sound k ∙ or_5_kept (sym c.add_up.ensures ∙ c.in_ok-add_up.was) in
+    record { settled = record { ready = c.args.loan.ready; sound = sound } }
 
 pub grow-requires : goal.grow-requires
 grow-requires c =
-    let f = c.requires.lent.fair in
-    let l : Fits c.args.h c.args.by = omega (arith, c.if-room-by.false) in
-    let g = c.if-sum-lt-MIN_SIZE.false in
-    let k = seeks c.requires.lent.fair c.neighbours-spot.ensures c.in-Between.is in
-    let sound = top_sound k ∙ sym c.is_all_free.ensures ∙ c.if-not-is_all_free.false in
-    (record { ready = c.requires; sound = sound }, omega arith, top_free k sound _ (omega arith) (omega arith))
+    let h = c.args.loan.heap in
+    let m = c.args.loan.arena.now in
+    let f = c.args.loan.ready.lent.fair in
+    let l : Fits h c.args.by = omega (arith, c.if-room-by.false) in
+    let k : Sought h m h.top c.in_ok-near.near =
+    record { fair = c.args.loan.ready.lent.fair; found = sym c.neighbours.ensures ∙ c.in_ok-near.was } in
+    let sound = top_sound k ∙ or_5_kept (sym c.add_up.ensures ∙ c.in_ok-add_up.was) in
+    (omega arith, top_free k sound _ c.if-sum-lt-MIN_SIZE.false (omega arith))
 
 pub returns : goal.returns
 returns c =
-    let f = c.requires.lent.fair in
-    let l : Fits c.args.h c.args.by = omega (arith, c.if-room-by.false) in
-    let k = seeks c.requires.lent.fair c.neighbours-spot.ensures c.in-Between.is in
-    let sound = top_sound k ∙ sym c.is_all_free.ensures ∙ c.if-not-is_all_free.false in
-    grows_is c.args.h c.args.arena.now c.args.by c.requires sound l c.if-sum-lt-MIN_SIZE.false c.grow.ensures
+    let h = c.args.loan.heap in
+    let m = c.args.loan.arena.now in
+    let f = c.args.loan.ready.lent.fair in
+    let l : Fits h c.args.by = omega (arith, c.if-room-by.false) in
+    let k : Sought h m h.top c.in_ok-near.near =
+    record { fair = c.args.loan.ready.lent.fair; found = sym c.neighbours.ensures ∙ c.in_ok-near.was } in
+    let sound = top_sound k ∙ or_5_kept (sym c.add_up.ensures ∙ c.in_ok-add_up.was) in
+    grows_is h m c.args.by c.args.loan.ready sound l c.if-sum-lt-MIN_SIZE.false c.grow.ensures

@@ -2,4 +2,4 @@
 use Rattle.extend.proofs.growth.gather.Goals as goal
 
 pub returns : goal.returns
-returns c = rw (c.nothing-2.ensures, c.nothing.ensures, c.fair_size.ensures)
+returns c = rw c.fair_size.ensures

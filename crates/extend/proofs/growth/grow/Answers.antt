@@ -3,4 +3,6 @@ use Rattle.extend.proofs.Extending.{grown_is}
 use Rattle.extend.proofs.growth.grow.Goals as goal
 
 pub returns : goal.returns
-returns c = grown_is c.args.h c.args.arena.now c.args.by c.requires.0.ready.lent.fair c.insert-list.ensures
+returns c =
+    let l = c.args.sound.loan in
+    grown_is l.heap l.arena.now c.args.by l.ready.lent.fair c.insert-list.ensures

@@ -1,69 +1,32 @@
--- `free::deallocation::deallocate` meets its contract: the walk decides 5, the neighbours 8, and the span is inserted. Assumes nothing.
-use mathlib.Core.Path.{sym, ◌∙◌}
+-- `free::deallocation::deallocate` meets its contract: the span is refused, or inserted among the holes. Assumes nothing.
+use Rattle.std.proofs.Common.{◌-◌}
+use Rattle.rules.specs.Holes.{hole}
 use Rattle.rules.specs.Sound.{holes}
-use Rattle.rules.proofs.Written.{fulfils_broken}
-use Rattle.free.specs.SpanTests.{frees}
-use Rattle.joining.proofs.Neighbours.{near_broken, seeks, starts, goes_on}
-use Rattle.free.proofs.Freeing.{known, span_around, span_refused, span_free, span_used, span_freed}
+use Rattle.rules.specs.Free.{freed}
+use Rattle.rules.specs.Calls.{given}
+use Rattle.rules.specs.Inner.{freeing}
+use Rattle.rules.specs.declared.Answer.TheVariants.{Freed}
+use Rattle.rules.proofs.Cases.{handed_on}
+use Rattle.rules.proofs.Written.{fulfils_changed}
+use Rattle.free.proofs.Found.{settled, fulfils_unfit, fulfils_fit}
 use Rattle.free.proofs.deallocation.deallocate.Goals as goal
 
-pub returns-in_default : goal.returns-in_default
-returns-in_default c =
-    let h = c.args.h in
-    let m = c.args.arena.now in
-    let a = c.args.addr in
-    let broken = near_broken h m a c.requires.0.lent.fair c.neighbours-spot.ensures c.in_default.is in
-    rw c.refuse.ensures (fulfils_broken h m (holes h m) (frees c.args.size a c.args.align h m) broken)
+pub returns-in_err-cursor : goal.returns-in_err-cursor
+unfolding freeing
+returns-in_err-cursor c =
+    let s = c.args in
+    rw (handed_on c.from_residual.ensures.1)
+    (fulfils_unfit s.loan.heap _ (hole s.addr s.layout.size) s.layout.align s.loan.arena.now _ c.in_err-cursor.ensures)
 
-pub walk-requires : goal.walk-requires
-walk-requires c =
-    let w = starts (seeks c.requires.0.lent.fair c.neighbours-spot.ensures c.in-Between.is) in
-    (c.requires.0.lent, w.0, w.1)
-
-pub returns-then-not-adds_up : goal.returns-then-not-adds_up
-returns-then-not-adds_up c =
-    let h = c.args.h in
-    let m = c.args.arena.now in
-    let k = seeks c.requires.0.lent.fair c.neighbours-spot.ensures c.in-Between.is in
-    rw c.refuse-then-not-adds_up.ensures
-    (fulfils_broken h m (holes h m) (frees c.args.size c.args.addr c.args.align h m)
-    (goes_on k c.walk.ensures ∙ sym c.adds_up.ensures ∙ c.if-not-adds_up.true))
-
-pub may_free-requires : goal.may_free-requires
-may_free-requires c =
-    let k =
-    known (seeks c.requires.0.lent.fair c.neighbours-spot.ensures c.in-Between.is)
-    c.walk.ensures c.adds_up.ensures c.if-not-adds_up.false in
-    (c.requires.0.lent.fair, c.requires.1.power, span_around k c.args.size)
-
-pub returns-then-not-may_free : goal.returns-then-not-may_free
-returns-then-not-may_free c =
-    let k =
-    known (seeks c.requires.0.lent.fair c.neighbours-spot.ensures c.in-Between.is)
-    c.walk.ensures c.adds_up.ensures c.if-not-adds_up.false in
-    rw c.refuse-then-not-may_free.ensures
-    (span_refused k c.args.size c.args.align c.requires.1.least (sym c.may_free.ensures ∙ c.if-not-may_free.true))
-
-pub insert-list-requires : goal.insert-list-requires
-insert-list-requires c =
-    let k =
-    known (seeks c.requires.0.lent.fair c.neighbours-spot.ensures c.in-Between.is)
-    c.walk.ensures c.adds_up.ensures c.if-not-adds_up.false in
-    let may = sym c.may_free.ensures ∙ c.if-not-may_free.false in
-    (record { ready = c.requires.0; sound = k.sound }, span_free k c.args.size c.args.align c.requires.1.least may)
-
-pub overflow_sub-used : goal.overflow_sub-used
-overflow_sub-used c =
-    let k =
-    known (seeks c.requires.0.lent.fair c.neighbours-spot.ensures c.in-Between.is)
-    c.walk.ensures c.adds_up.ensures c.if-not-adds_up.false in
-    let may = sym c.may_free.ensures ∙ c.if-not-may_free.false in
-    span_used k c.args.size c.args.align c.requires.1.least may
+pub invariant_of-sound : goal.invariant_of-sound
+invariant_of-sound c = record { settled = settled c.args.loan.ready c.in_ok-cursor.ensures }
 
 pub returns : goal.returns
+unfolding freeing given
 returns c =
-    let k =
-    known (seeks c.requires.0.lent.fair c.neighbours-spot.ensures c.in-Between.is)
-    c.walk.ensures c.adds_up.ensures c.if-not-adds_up.false in
-    let may = sym c.may_free.ensures ∙ c.if-not-may_free.false in
-    span_freed k c.args.size c.args.align c.requires.1.least may c.insert-list.ensures
+    let h = c.args.loan.heap in
+    let m = c.args.loan.arena.now in
+    let span = hole c.args.addr c.args.layout.size in
+    let used = h.used - span.size in
+    fulfils_fit h (holes h m) span c.args.layout.align m _ c.in_ok-cursor.ensures.passed
+    (fulfils_changed h m (Freed span.size used) (freed span (holes h m)) h.top h.pending used c.insert-list.ensures)

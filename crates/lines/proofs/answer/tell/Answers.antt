@@ -6,5 +6,5 @@ use Rattle.lines.proofs.answer.tell.Goals as goal
 
 pub returns : goal.returns
 returns c =
-    let s = c.answer_numbers-t.ensures in
+    let s = c.from-t.ensures in
     (refl, rw (c.put_line.ensures, s) (line_front _ _ _ _), search rules)

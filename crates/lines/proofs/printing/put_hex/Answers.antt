@@ -1,26 +1,13 @@
--- `lines::printing::put_hex` meets its contract: the digits left to write, written into the bytes as they are, always give the bytes wanted.
+-- `lines::printing::put_hex` meets its contract: the digits left to write, before those that are written, always give the digits wanted.
 -- Assumes nothing.
-use mathlib.Core.Path.{refl, sym, ◌∙◌}
-use native.Mathlib.Omega.{arith}
-use lib.ListN.{length-set}
+use Rattle.std.proofs.Common.{◌∙◌, sym, arith}
 use Rattle.lines.proofs.Placed.{hex_on, hex_off}
-use borrow.Author.Rules.{rules}
 use Rattle.lines.proofs.printing.put_hex.Goals as goal
 
-pub loop-left-init : goal.loop-left-init
-loop-left-init c = (refl, search rules, refl)
-
-pub loop-left-preserved : goal.loop-left-preserved
-loop-left-preserved c =
-    let s = c.loop-left in
-    let at = c.args.at in (
-      rw c.glyph_of.ensures (hex_on s.left s.rest at s.out (omega arith) (omega arith) ∙ s.invariant.0),
-      simp length-set (omega arith),
-      simp length-set (omega arith),
-    )
+pub loop-i-preserved : goal.loop-i-preserved
+loop-i-preserved c =
+    let s = c.loop-i in
+    rw c.glyph_of.ensures (hex_on s.i s.rest s.out (omega arith) (omega arith) ∙ s.invariant)
 
 pub returns : goal.returns
-returns c =
-    let s = c.loop-left in
-    let at = c.args.at in
-    sym (hex_off s.left s.rest at s.out (omega arith)) ∙ s.invariant.0
+returns c = let s = c.loop-i in sym (hex_off s.i s.rest s.out (omega arith)) ∙ s.invariant

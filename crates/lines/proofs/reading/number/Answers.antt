@@ -1,47 +1,34 @@
 -- `lines::reading::number` meets its contract: the digits left, behind the number so far, always make the number wanted. Assumes nothing.
-use mathlib.Core.Path.{◌≡◌, refl, sym, ◌∙◌}
-use Prim.Native.Nat.{suc, ◌-◌}
-use native.Mathlib.Omega.{arith}
-use native.Mathlib.Nat.{one-le-pow}
-use Rattle.lines.proofs.Digits.{digit_below, value_on, value_end, value_past, more_digits, sixteen_fit}
-use borrow.Author.Rules.{rules}
+use Rattle.std.proofs.Common.{◌∙◌, sym, arith}
+use Rattle.lines.proofs.Digits.{read_on, read_off, read_end, more_digits, sixteen_fit}
 use Rattle.lines.proofs.reading.number.Goals as goal
-
-pub loop-left-init : goal.loop-left-init
-loop-left-init c = (refl, one-le-pow _ 16 (omega arith), search rules)
-
--- the line has ended
-pub returns-then-line-at : goal.returns-then-line-at
-returns-then-line-at c =
-    let s = c.loop-left in
-    let line = c.args.line.now in
-    sym (value_past s.sum s.left line s.at (omega arith)) ∙ s.invariant.0
 
 pub overflow_mul-sum : goal.overflow_mul-sum
 overflow_mul-sum c =
-    let s = c.loop-left in
-    let l = more_digits s.sum 0 (16 - s.left) s.invariant.1 (omega arith) in
-    omega (arith, sixteen_fit _ _ l (omega arith))
+    let s = c.loop-b in
+    omega (arith, sixteen_fit _ _ (more_digits s.sum 0 s.b-index s.invariant.1 (omega arith)) (omega arith))
+
+-- a byte that is no digit
+pub returns-in_err-sum : goal.returns-in_err-sum
+returns-in_err-sum c =
+    let s = c.loop-b in
+    c.from_residual.ensures ∙ sym (read_off s.sum _ s.b-index (omega arith) c.in_err-sum.ensures) ∙ s.invariant.0
 
 pub overflow_add-sum : goal.overflow_add-sum
 overflow_add-sum c =
-    let s = c.loop-left in
-    let d = digit_below c.args.line.now s.at c.requires.0 (omega arith) in
-    let l = more_digits s.sum c.digit_of.result (16 - s.left) s.invariant.1 (omega arith) in
-    omega (arith, sixteen_fit _ _ l (omega arith))
+    let s = c.loop-b in
+    omega (arith, sixteen_fit _ _ (more_digits s.sum c.in_ok-sum.field-0 s.b-index s.invariant.1 c.in_ok-sum.ensures.1) (omega arith))
 
-pub loop-left-preserved : goal.loop-left-preserved
-loop-left-preserved c =
-    let s = c.loop-left in
-    let d = digit_below c.args.line.now s.at c.requires.0 (omega arith) in
-    let k : 16 - (s.left - 1) ≡ suc (16 - s.left) = omega arith in (
-      rw c.digit_of.ensures (value_on s.sum s.left c.args.line.now s.at (omega arith) (omega arith) ∙ s.invariant.0),
-      rw k (more_digits s.sum c.digit_of.result (16 - s.left) s.invariant.1 (omega arith)),
-      omega arith,
+pub loop-b-preserved : goal.loop-b-preserved
+loop-b-preserved c =
+    let s = c.loop-b in
+    let d = c.in_ok-sum.ensures in (
+      rw d.0 (read_on s.sum _ s.b-index (omega arith) (rw d.0 at d.1) ∙ s.invariant.0),
+      more_digits s.sum c.in_ok-sum.field-0 s.b-index s.invariant.1 d.1,
     )
 
--- the digits wanted are read
+-- behind the last byte
 pub returns : goal.returns
 returns c =
-    let s = c.loop-left in
-    sym (value_end s.sum s.left _ (omega arith)) ∙ s.invariant.0
+    let s = c.loop-b in
+    sym (read_end s.sum _ s.b-index (omega arith)) ∙ s.invariant.0

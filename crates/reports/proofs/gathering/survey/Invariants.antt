@@ -9,10 +9,10 @@ use Rattle.walk.specs.Walk.{never}
 use Rattle.walk.proofs.Gathered.{Counting}
 use Rattle.reports.proofs.gathering.survey.Given as goal
 
-abbrev pub invariant-loop-hole : goal.invariant-loop-hole
-invariant-loop-hole l =
-    (front : List Hole) × Counting never l.h l.arena l.at l.floor l.total l.count front ×
-    (l.largest ≡ largest_grant l.align front)
+abbrev pub invariant-loop-step : goal.invariant-loop-step
+invariant-loop-step l =
+    (front : List Hole) × Counting never l.loan.heap l.loan.arena.now l.at l.floor l.total l.count front ×
+    (l.largest ≡ largest_grant l.layout.align front)
 
-abbrev pub decreases-loop-hole : goal.decreases-loop-hole
-decreases-loop-hole l = l.h.top.0 + min_size - l.floor.0
+abbrev pub decreases-loop-step : goal.decreases-loop-step
+decreases-loop-step l = l.loan.heap.top.0 + min_size - l.floor.0

@@ -4,8 +4,8 @@ use Rattle.rules.specs.Fixed.{min_size}
 use Rattle.walk.proofs.ToEnd.{Summing}
 use Rattle.walk.proofs.to_end.walk.Given as goal
 
-abbrev pub invariant-loop-hole : goal.invariant-loop-hole
-invariant-loop-hole l = Summing l.h l.arena l.initial.at l.initial.floor l.before l.at l.floor l.total
+abbrev pub invariant-loop-step : goal.invariant-loop-step
+invariant-loop-step l = Summing l.loan.heap l.loan.arena.now l.initial.at l.initial.floor l.before l.at l.floor l.total
 
-abbrev pub decreases-loop-hole : goal.decreases-loop-hole
-decreases-loop-hole l = l.h.top.0 + min_size - l.floor.0
+abbrev pub decreases-loop-step : goal.decreases-loop-step
+decreases-loop-step l = l.loan.heap.top.0 + min_size - l.floor.0

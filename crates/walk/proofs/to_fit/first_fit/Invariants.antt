@@ -6,8 +6,8 @@ use Rattle.rules.specs.Allocate.{suits}
 use Rattle.walk.proofs.Gathered.{Seeking}
 use Rattle.walk.proofs.to_fit.first_fit.Given as goal
 
-abbrev pub invariant-loop-hole : goal.invariant-loop-hole
-invariant-loop-hole l = Seeking (suits l.want l.align) l.h l.arena l.cursor l.floor l.total l.count
+abbrev pub invariant-loop-step : goal.invariant-loop-step
+invariant-loop-step l = Seeking (suits l.layout.size l.layout.align) l.loan.heap l.loan.arena.now l.cursor l.floor l.total l.count
 
-abbrev pub decreases-loop-hole : goal.decreases-loop-hole
-decreases-loop-hole l = l.h.top.0 + min_size - l.floor.0
+abbrev pub decreases-loop-step : goal.decreases-loop-step
+decreases-loop-step l = l.loan.heap.top.0 + min_size - l.floor.0

@@ -6,8 +6,8 @@ use Rattle.walk.specs.Walk.{is_beyond}
 use Rattle.walk.proofs.Gathered.{Seeking}
 use Rattle.walk.proofs.to_span.neighbours.Given as goal
 
-abbrev pub invariant-loop-hole : goal.invariant-loop-hole
-invariant-loop-hole l = (count : ℕ) × Seeking (is_beyond l.addr) l.h l.arena l.cursor l.floor l.total count
+abbrev pub invariant-loop-step : goal.invariant-loop-step
+invariant-loop-step l = (count : ℕ) × Seeking (is_beyond l.addr) l.loan.heap l.loan.arena.now l.cursor l.floor l.total count
 
-abbrev pub decreases-loop-hole : goal.decreases-loop-hole
-decreases-loop-hole l = l.h.top.0 + min_size - l.floor.0
+abbrev pub decreases-loop-step : goal.decreases-loop-step
+decreases-loop-step l = l.loan.heap.top.0 + min_size - l.floor.0

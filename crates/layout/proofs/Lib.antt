@@ -1,0 +1,2 @@
+-- what an alignment that was let through is
+pub mod Aligned

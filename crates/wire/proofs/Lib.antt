@@ -1,0 +1,4 @@
+-- The laws of the program's reading and writing.
+
+-- what is said of more bytes
+pub mod Said
