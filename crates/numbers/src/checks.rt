@@ -68,6 +68,7 @@ pub fn sound_numbers(h: Heap) -> bool
 }
 
 // Refusals 3, 4, and 5 as far as the heap's numbers earn it.
+#[tactic(auto, unfolding(crate::specs::Checks::checked_of))]
 pub fn check(h: Heap, len: u64) -> Result<(), Refusal>
     ensures { result ≡ checked_of len h }
 {
