@@ -12,19 +12,16 @@ pub fn fill(sound: Sound<'_>, addrs: &mut [u64], sizes: &mut [u64])
 {
     let loan = sound.loan;
     let mut at = loan.heap.first;
-    let mut floor = first_floor(loan);
+    let mut floor = first_floor(loan.heap);
     for i in 0..addrs.len().min(sizes.len()) {
-        match next(loan, at, floor) {
-            Ok(Some(step)) => {
-                let hole = step.hole;
-                addrs[i] = hole.addr.0;
-                sizes[i] = hole.size;
-                floor = behind(hole);
-                at = step.next;
-            }
-            Ok(None) => return,
-            // Never: the holes keep every rule.
-            Err(_) => return,
-        }
+        // No further hole. A broken rule is never met: the holes keep them all.
+        let Ok(Some(step)) = next(loan, at, floor) else {
+            return;
+        };
+        let hole = step.hole;
+        addrs[i] = hole.addr.0;
+        sizes[i] = hole.size;
+        floor = behind(hole);
+        at = step.next;
     }
 }

@@ -31,11 +31,14 @@ pub fn survey(loan: Loan<'_>, layout: Layout) -> Result<Survey, Refusal>
     ensures { result ≡ survey_of loan.entry.heap layout.align (holes loan.entry.heap loan.entry.arena.now) }
 {
     let mut at = loan.heap.first;
-    let mut floor = first_floor(loan);
+    let mut floor = first_floor(loan.heap);
     let mut total: u64 = 0;
     let mut count: u64 = 0;
     let mut largest: u64 = 0;
-    while let Some(step) = next(loan, at, floor)? {
+    loop {
+        let Some(step) = next(loan, at, floor)? else {
+            break;
+        };
         let hole = step.hole;
         total += hole.size;
         count += 1;

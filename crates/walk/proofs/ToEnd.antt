@@ -171,6 +171,15 @@ pub holes_sound : (h : Heap) (m : List ℕ) → Fair h
     → sound_holes h (holes h m) ≡ adds_up h (walked_of h (start_of h) 0 (holes h m))
 holes_sound h m f = holes_onward h m f (start_of h) 0 (holes h m) refl (omega arith)
 
+-- a walk from the first place and the first floor decides them
+pub sound_from : (h : Heap) (m : List ℕ) → Fair h → {low : Addr} {w : Result ⊤ Refusal}
+    → ((n : ℕ) → Enough h low n → w ≡ or_5 (adds_up h (walked_of h low 0 (holes_from n h.base m h.first))))
+    → low.0 ≡ (start_of h).0 → w ≡ or_5 (sound_holes h (holes h m))
+sound_from h m f {low} is e =
+    let t = start h m f in
+    let floor : low ≡ start_of h = rw e in
+    rw (holes_sound h m f, t.list, ← floor) (is (suc (most h)) (rw floor t.enough))
+
 -- ---- a walk that goes on
 
 -- behind the holes that another has passed

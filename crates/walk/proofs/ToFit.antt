@@ -29,9 +29,11 @@ use Rattle.rules.specs.Inner.{Fair, behind}
 use Rattle.rules.proofs.Walk.{Keeps, rules_keep, walks}
 use Rattle.walk.specs.declared.Cursor.{Cursor}
 use Rattle.walk.specs.declared.Fit.{Fit}
+use Rattle.walk.specs.declared.Search.{Search}
+use Rattle.walk.specs.declared.Search.TheVariants.{At, Nowhere}
 use Rattle.rules.specs.declared.Refusal.{Refusal}
 use Rattle.rules.specs.declared.Refusal.TheVariants.{NotSound, NoRoom}
-use Rattle.walk.specs.Walk.{Stepped, found_at, start_of, step_of, Stop, stopped, ended, broken, last_place, last_floor, all_free, no_fit, search_by, search_of}
+use Rattle.walk.specs.Walk.{Stepped, found_at, start_of, step_of, walked, Stop, stopped, ended, broken, last_place, last_floor, all_free, no_fit, searched_by, searched_of, search_by, search_of}
 use Rattle.walk.proofs.Passed.{floor_some, total_more, Spaced, spaced_more}
 use Rattle.walk.proofs.Turn.{breaks_5, turn_place, all_halt, all_end, all_break}
 use Rattle.walk.proofs.Passed.{NoneStops, Says, said}
@@ -90,20 +92,39 @@ module _ (want : ℕ) {align : ℕ} (p : Power align) (k : Hole) where
 module _ (want align : ℕ) {h : Heap} {m : List ℕ} {cursor : Cursor} {floor : Addr} {total count : ℕ} where
   module _ (s : Seeking (Allocate.suits want align) h m cursor floor total count) {st : Stepped} (is : st ≡ step_of h m cursor.hole floor) where
     pub search_found : {k : Hole} {q : Place} → st ≡ found_at k q → Allocate.suits want align k ≡ true
-        → Ok (record { cursor = cursor; hole = k; next = q; count = count + 1; total = total + k.size })
-        ≡ search_of h want align (holes h m)
-    unfolding search_of search_by
+        → Ok (At (record { cursor = cursor; hole = k; next = q; count = count + 1; total = total + k.size }))
+        ≡ searched_of h want align (holes h m)
+    unfolding searched_of searched_by
     search_found e y =
         let t = all_halt s.counting.gone is e y in
         rw (t.1, t.2, ← s.prev, ← turn_place s.counting.gone is e, s.counting.counted, s.counting.summed)
 
-    pub search_ended : st ≡ Ok None → Err (cond (all_free h total) (NoRoom count) NotSound) ≡ search_of h want align (holes h m)
-    unfolding search_of search_by no_fit
+    pub search_ended : st ≡ Ok None → Ok (Nowhere count total) ≡ searched_of h want align (holes h m)
+    unfolding searched_of searched_by
     search_ended e = rw (all_end s.counting.gone is e, s.counting.counted, s.counting.summed)
 
-    pub search_broken : {r : Refusal} → st ≡ Err r → Err r ≡ search_of h want align (holes h m)
-    unfolding search_of search_by
+    pub search_broken : {r : Refusal} → st ≡ Err r → Err r ≡ searched_of h want align (holes h m)
+    unfolding searched_of searched_by
     search_broken e = rw (breaks_5 s.counting.gone is e, all_break s.counting.gone is e)
+
+-- ---- what an allocation makes of it
+
+module _ (h : Heap) (want align : ℕ) (ks : List Hole) where
+  -- the hole that it found, or a refusal
+  abbrev Fitted : Result Search Refusal → Result Fit Refusal
+  Fitted (Ok (At f)) = Ok f
+  Fitted (Ok (Nowhere count total)) = Err (cond (all_free h total) (NoRoom count) NotSound)
+  Fitted (Err r) = Err r
+
+  fitted_by : (s : Stop) → Fitted (searched_by h.base s) ≡ search_by h s
+  unfolding searched_by search_by no_fit
+  fitted_by (stopped front k back) = refl
+  fitted_by (ended ks) = refl
+  fitted_by broken = refl
+
+  pub fitted : {v w : Result Search Refusal} → v ≡ searched_of h want align ks → v ≡ w → Fitted w ≡ search_of h want align ks
+  unfolding searched_of search_of
+  fitted is e = ap Fitted (sym e ∙ is) ∙ fitted_by (walked (Allocate.suits want align) h (start_of h) ks)
 
 -- ---- what the answer says of the list
 

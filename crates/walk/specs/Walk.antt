@@ -17,6 +17,8 @@ use Rattle.rules.specs.Inner.{head_rules, behind, ends}
 use Rattle.walk.specs.declared.Cursor.{Cursor}
 use Rattle.walk.specs.declared.Near.{Near}
 use Rattle.walk.specs.declared.Fit.{Fit}
+use Rattle.walk.specs.declared.Search.{Search}
+use Rattle.walk.specs.declared.Search.TheVariants.{At, Nowhere}
 use Rattle.walk.specs.declared.Step.{Step}
 
 -- ---- one step
@@ -99,20 +101,31 @@ or_5 false = Err NotSound
 
 -- ---- to the hole that an allocation uses: the first that suits stops it
 
--- none does: 7, with the number of holes, if the sizes add up; else 5
+-- it lies between the holes passed and those behind it
+abbrev pub fit_to : Addr → List Hole → Hole → List Hole → Fit
+fit_to base front k back =
+    record {
+      cursor = cursor_at (last_place base none front) (place_of base k.addr);
+      hole = k;
+      next = first_of base back;
+      count = length front + 1;
+      total = total front + k.size;
+    }
+
+unfoldable pub searched_by : Addr → Stop → Result Search Refusal
+searched_by base (stopped front k back) = Ok (At (fit_to base front k back))
+searched_by base (ended ks) = Ok (Nowhere (length ks) (total ks))
+searched_by base broken = Err NotSound
+
+unfoldable pub searched_of : Heap → ℕ → ℕ → List Hole → Result Search Refusal
+searched_of h want align ks = searched_by h.base (walked (suits want align) h (start_of h) ks)
+
+-- where none does, an allocation is refused: 7, with the number of holes, if the sizes add up; else 5
 unfoldable pub no_fit : Heap → List Hole → Refusal
 no_fit h ks = cond (all_free h (total ks)) (NoRoom (length ks)) NotSound
 
 unfoldable pub search_by : Heap → Stop → Result Fit Refusal
-search_by h (stopped front k back) =
-    Ok
-    (record {
-      cursor = cursor_at (last_place h.base none front) (place_of h.base k.addr);
-      hole = k;
-      next = first_of h.base back;
-      count = length front + 1;
-      total = total front + k.size;
-    })
+search_by h (stopped front k back) = Ok (fit_to h.base front k back)
 search_by h (ended ks) = Err (no_fit h ks)
 search_by h broken = Err NotSound
 

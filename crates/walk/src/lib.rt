@@ -12,8 +12,8 @@ mod to_span;
 pub use one_step::{behind, first_floor, next};
 use rules::{Addr, Hole, Place};
 pub use settled::Sound;
-pub use to_end::{add_up, finish, sound};
-pub use to_fit::{candidate, first_fit};
+pub use to_end::{add_up, adds_up, finish, is_all_free, sound, walk};
+pub use to_fit::{candidate, first_fit, seek};
 pub use to_span::neighbours;
 
 // What a step finds, where there is a further hole: the hole, and the place of the next head.
@@ -39,6 +39,14 @@ pub struct Fit {
     pub next: Place,
     pub count: u64,
     pub total: u64,
+}
+
+// What the search for a hole finds: the first that suits; or that none does, with their number and the sum
+// of their sizes, whether or not that is all that is free.
+#[derive(Clone, Copy)]
+pub enum Search {
+    At(Fit),
+    Nowhere { count: u64, total: u64 },
 }
 
 // Where a span lies among the holes: behind `prev` and before `hole`, where these are; the floor

@@ -3,20 +3,21 @@ ghost use Rattle.std.specs.Prelude.{◌≡◌, ◌≤◌};
 ghost use Rattle.rules.specs.Fixed.{addr_limit};
 ghost use Rattle.rules.specs.Holes as Holes;
 ghost use Rattle.rules.specs.Inner as Inner;
+ghost use Rattle.rules.specs.Inner.{Fair};
 ghost use Rattle.walk.specs.Walk.{start_of, last_of, step_of};
 
 use crate::Step;
 use hole::{addr_of, place_of, read_head};
 use numbers::Loan;
-use rules::{Addr, GRAIN, Hole, MIN_SIZE, NONE, Place, Refusal};
+use rules::{Addr, GRAIN, Heap, Hole, MIN_SIZE, NONE, Place, Refusal};
 
 // The floor of the first head: bottom if it lies there, else 16 bytes on, so that 0 or at least 16
 // bytes are left before it.
 #[tactic(auto, unfolding(crate::specs::Walk::start_of))]
-pub fn first_floor(loan: Loan<'_>) -> Addr
-    ensures { result ≡ start_of loan.entry.heap }
+pub fn first_floor(h: Heap) -> Addr
+    requires { Fair h }
+    ensures { result ≡ start_of h }
 {
-    let h = loan.heap;
     let bottom = h.bottom;
     if h.first == place_of(h.base, bottom) {
         return bottom;

@@ -4,9 +4,9 @@ ghost use Rattle.rules.specs.Fixed.{addr_limit, min_size};
 ghost use Rattle.rules.specs.Round.{Power};
 ghost use Rattle.rules.specs.Allocate as Allocate;
 ghost use Rattle.rules.specs.Sound.{holes};
-ghost use Rattle.walk.specs.Walk.{search_of};
+ghost use Rattle.walk.specs.Walk.{searched_of, search_of};
 
-use crate::{Cursor, Fit, add_up, behind, first_floor, next};
+use crate::{Cursor, Fit, Search, add_up, behind, first_floor, next};
 use align::{align_up, offset};
 use layout::Layout;
 use numbers::Loan;
@@ -45,24 +45,24 @@ fn suits(hole: Hole, layout: Layout) -> bool
     stop + MIN_SIZE <= end
 }
 
-// The first hole that suits: the walk stops there and yields that hole. None does: 7, if the sizes of all
-// add up. Kept out of its callers, its loop has the registers to itself: a head costs fewer instructions.
+// The first hole that suits: the walk stops there and yields that hole. Where none does, what it has
+// counted and summed. Kept out of its callers, its loop has the registers to itself: a head costs fewer
+// instructions.
 #[inline(never)]
-pub fn first_fit(loan: Loan<'_>, layout: Layout) -> Result<Fit, Refusal>
-    ensures { result ≡ search_of loan.entry.heap layout.size layout.align (holes loan.entry.heap loan.entry.arena.now) }
+pub fn seek(loan: Loan<'_>, layout: Layout) -> Result<Search, Refusal>
+    ensures { result ≡ searched_of loan.entry.heap layout.size layout.align (holes loan.entry.heap loan.entry.arena.now) }
 {
     let first = loan.heap.first;
     let mut cursor = Cursor {
         prev: NONE,
         hole: first,
     };
-    let mut floor = first_floor(loan);
+    let mut floor = first_floor(loan.heap);
     let mut total: u64 = 0;
     let mut count: u64 = 0;
     let found = loop {
         let Some(step) = next(loan, cursor.hole, floor)? else {
-            add_up(loan, total)?;
-            return Err(Refusal::NoRoom { holes: count });
+            return Ok(Search::Nowhere { count, total });
         };
         let hole = step.hole;
         total += hole.size;
@@ -76,11 +76,24 @@ pub fn first_fit(loan: Loan<'_>, layout: Layout) -> Result<Fit, Refusal>
             hole: step.next,
         };
     };
-    Ok(Fit {
+    Ok(Search::At(Fit {
         cursor,
         hole: found.hole,
         next: found.next,
         count,
         total,
-    })
+    }))
+}
+
+// The first hole that suits. None does: 7, if the sizes of all add up.
+pub fn first_fit(loan: Loan<'_>, layout: Layout) -> Result<Fit, Refusal>
+    ensures { result ≡ search_of loan.entry.heap layout.size layout.align (holes loan.entry.heap loan.entry.arena.now) }
+{
+    match seek(loan, layout)? {
+        Search::At(fit) => Ok(fit),
+        Search::Nowhere { count, total } => {
+            add_up(loan, total)?;
+            Err(Refusal::NoRoom { holes: count })
+        }
+    }
 }

@@ -16,9 +16,12 @@ pub fn neighbours(loan: Loan<'_>, addr: Addr) -> Result<Near, Refusal>
         prev: NONE,
         hole: first,
     };
-    let mut floor = first_floor(loan);
+    let mut floor = first_floor(loan.heap);
     let mut total: u64 = 0;
-    while let Some(step) = next(loan, cursor.hole, floor)? {
+    loop {
+        let Some(step) = next(loan, cursor.hole, floor)? else {
+            break;
+        };
         let hole = step.hole;
         if addr < hole.addr {
             break;

@@ -7,13 +7,14 @@ use Rattle.reports.proofs.filling.fill.Goals as goal
 pub loop-i-init : goal.loop-i-init
 loop-i-init c = rw c.first_floor-floor.ensures (fills _ _ _ _ c.args.sound.loan.ready.lent.fair)
 
-pub returns-in-Ok-None : goal.returns-in-Ok-None
-returns-in-Ok-None c =
+pub returns-in_default : goal.returns-in_default
+returns-in_default c =
     let e = c.min-i-end.ensures in
-    fills_ended _ _ _ _ c.loop-i.invariant c.next.ensures (omega arith) (c.in-Ok-None.is ∙ ap Ok c.in-Ok-None.field-0-is)
+    fills_ended _ _ _ _ c.loop-i.invariant c.next.ensures (omega arith) (cc)
 
-pub returns-in-Err : goal.returns-in-Err
-returns-in-Err c = fills_unbroken _ _ _ _ c.loop-i.invariant c.next.ensures c.args.sound.settled.sound c.in-Err.is
+pub returns-in_default-2 : goal.returns-in_default-2
+returns-in_default-2 c =
+    fills_unbroken _ _ _ _ c.loop-i.invariant c.next.ensures c.args.sound.settled.sound c.in_default.is
 
 pub behind-floor-requires : goal.behind-floor-requires
 behind-floor-requires c = omega (arith, turn_bounds c.loop-i.invariant.gone c.next.ensures (c.in-Ok-Some.is ∙ ap Ok c.in-Ok-Some.field-0-is))

@@ -1,70 +1,25 @@
--- `walk::to_fit::first_fit` meets its contract: at each turn cursor, sum and count are those of the holes passed, and the floor rises.
--- Assumes nothing.
-use Rattle.std.proofs.Common.{Ok, sym, ap, ◌∙◌, arith}
-use Rattle.rules.specs.Allocate.{suits}
+-- `walk::to_fit::first_fit` meets its contract: what the search finds is the answer, and its sum decides between 7 and 5. Assumes nothing.
+use Rattle.std.proofs.Common.{Ok, sym, ap, ◌∙◌}
 use Rattle.rules.proofs.Cases.{handed_on}
-use Rattle.walk.proofs.Turn.{turn_bounds}
-use Rattle.walk.proofs.Gathered.{seeks, seeks_on}
 use Rattle.walk.proofs.ToEnd.{or_5_broken, or_5_kept}
-use Rattle.walk.proofs.ToFit.{search_found, search_ended, search_broken}
+use Rattle.walk.proofs.ToFit.{fitted}
 use Rattle.walk.proofs.to_fit.first_fit.Goals as goal
 
-pub loop-step-init : goal.loop-step-init
-loop-step-init c =
-    let s = c.args in
-    rw c.first_floor-floor.ensures
-    (seeks (suits s.layout.size s.layout.align) s.loan.heap s.loan.arena.now s.loan.ready.lent.fair)
+pub returns-in_err-fit : goal.returns-in_err-fit
+returns-in_err-fit c =
+    handed_on c.from_residual.ensures.1 ∙ fitted _ _ _ _ c.seek.ensures c.in_err-fit.was
 
-pub returns-in_err-step : goal.returns-in_err-step
-returns-in_err-step c =
-    handed_on c.from_residual.ensures.1 ∙ search_broken _ _ c.loop-step.invariant c.next.ensures c.in_err-step.was
+pub returns-in-At : goal.returns-in-At
+returns-in-At c =
+    fitted _ _ _ _ c.seek.ensures (c.in_ok-fit.was ∙ ap Ok c.in-At.is)
 
-pub overflow_add-total : goal.overflow_add-total
-overflow_add-total c =
-    let found = c.in_ok-step.was ∙ ap Ok c.in-Some.is in
-    omega (arith, turn_bounds c.loop-step.invariant.counting.gone c.next.ensures found)
+pub returns-in_err-add_up-in-Nowhere : goal.returns-in_err-add_up-in-Nowhere
+returns-in_err-add_up-in-Nowhere c =
+    let f = fitted _ _ _ _ c.seek.ensures (c.in_ok-fit.was ∙ ap Ok c.in-Nowhere.is) in
+    let b = or_5_broken (sym c.add_up.ensures ∙ c.in_err-add_up-in-Nowhere.was) in
+    handed_on c.from_residual-in_err-add_up-in-Nowhere.ensures.1 ∙ rw b.1 (rw b.0 at f)
 
-pub overflow_add-count : goal.overflow_add-count
-overflow_add-count c =
-    let found = c.in_ok-step.was ∙ ap Ok c.in-Some.is in
-    omega (arith, turn_bounds c.loop-step.invariant.counting.gone c.next.ensures found)
-
-pub suits-requires : goal.suits-requires
-suits-requires c =
-    let found = c.in_ok-step.was ∙ ap Ok c.in-Some.is in
-    let b = turn_bounds c.loop-step.invariant.counting.gone c.next.ensures found in
-    (omega arith, b.least)
-
-pub behind-floor-requires : goal.behind-floor-requires
-behind-floor-requires c =
-    let found = c.in_ok-step.was ∙ ap Ok c.in-Some.is in
-    omega (arith, turn_bounds c.loop-step.invariant.counting.gone c.next.ensures found)
-
-pub loop-step-smaller : goal.loop-step-smaller
-loop-step-smaller c =
-    let found = c.in_ok-step.was ∙ ap Ok c.in-Some.is in
-    let b = turn_bounds c.loop-step.invariant.counting.gone c.next.ensures found in
-    rw c.behind-floor.ensures (omega arith)
-
-pub loop-step-preserved : goal.loop-step-preserved
-loop-step-preserved c =
-    let found = c.in_ok-step.was ∙ ap Ok c.in-Some.is in
-    rw c.behind-floor.ensures
-    (seeks_on _ _ _ c.loop-step.invariant c.next.ensures found (sym c.suits.ensures ∙ c.if-suits.false))
-
-pub returns-in_err-add_up : goal.returns-in_err-add_up
-returns-in_err-add_up c =
-    let ended = c.in_ok-step.was ∙ ap Ok c.in_default.is in
-    let b = or_5_broken (sym c.add_up.ensures ∙ c.in_err-add_up.was) in
-    handed_on c.from_residual-in_err-add_up.ensures.1
-    ∙ rw b.1 (rw b.0 at (search_ended _ _ c.loop-step.invariant c.next.ensures ended))
-
-pub returns-in_default : goal.returns-in_default
-returns-in_default c =
-    let ended = c.in_ok-step.was ∙ ap Ok c.in_default.is in
-    rw (or_5_kept (sym c.add_up.ensures ∙ c.in_ok-add_up.was)) at (search_ended _ _ c.loop-step.invariant c.next.ensures ended)
-
-pub returns : goal.returns
-returns c =
-    let found = c.in_ok-step.was ∙ ap Ok c.in-Some.is in
-    search_found _ _ c.loop-step.invariant c.next.ensures found (sym c.suits.ensures ∙ c.if-suits.true)
+pub returns-in_ok-add_up-in-Nowhere : goal.returns-in_ok-add_up-in-Nowhere
+returns-in_ok-add_up-in-Nowhere c =
+    let f = fitted _ _ _ _ c.seek.ensures (c.in_ok-fit.was ∙ ap Ok c.in-Nowhere.is) in
+    rw (or_5_kept (sym c.add_up.ensures ∙ c.in_ok-add_up-in-Nowhere.was)) at f
