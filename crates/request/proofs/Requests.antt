@@ -1,5 +1,5 @@
--- What a call comes to where its heap is refused the arena, or its request a layout. Assumes nothing.
-use Rattle.std.proofs.Common.{◌≡◌, Result, Err, MatchResult, false, List, ◌∷◌, ℕ, length}
+-- What a call comes to where its heap is refused the arena, or its request a layout; and a request on its own. Assumes nothing.
+use Rattle.std.proofs.Common.{◌≡◌, Result, Ok, Err, MatchResult, IfOk, false, List, ◌∷◌, ℕ, length}
 use Rattle.rules.specs.Sound.{holes}
 use Rattle.rules.specs.Calls.{Call}
 use Rattle.rules.specs.Refusals.{Test, test, refusal6}
@@ -17,7 +17,7 @@ use Rattle.numbers.specs.declared.loan.Loan.{Loan}
 use Rattle.numbers.proofs.Verdicts.{passes, fulfils_no}
 use Rattle.layout.specs.Lays.{Lays}
 use Rattle.layout.specs.declared.valid.Layout.{Layout}
-use Rattle.request.specs.Requested.{Denied}
+use Rattle.request.specs.Requested.{Denied, by_layout, by_numbers, request_of}
 
 module _ (c : Call) (later : Opens c ≡ false) (h : Heap) (m : List ℕ) where
   -- by what `lend` says
@@ -33,3 +33,20 @@ module _ (c : Call) (later : Opens c ≡ false) (h : Heap) (m : List ℕ) where
         let p = passes (length m) h on.checked in
         let d : Denied h m s align r = rw (e, on.heap, on.arena) at said in
         rw d.why (fulfils_later c h m BadLayout (layout_6 h m p.0 p.1 c later s align six d.layout))
+
+-- a request on its own: by what `lend` says, and behind it by what `requested` says
+module _ (h : Heap) (m : List ℕ) (s align : ℕ) where
+  pub not_lent : {r : Refusal} → checked_of (length m) h ≡ Err r → request_of h m s align ≡ Err r
+  unfolding by_numbers
+  not_lent e = rw e
+
+  pub asked : {l : Loan} → Lends h m l → (v : Result Layout Refusal) → MatchResult v (Lays s align) (Denied l.heap l.arena.now s align)
+      → MatchResult v (λ y. request_of h m s align ≡ Ok y.size) (λ r. request_of h m s align ≡ Err r)
+  unfolding by_numbers by_layout
+  asked on (Ok y) said = rw (on.checked, said.rounded)
+  asked on (Err r) said = rw (on.checked, said.layout, said.why, ← on.heap, ← on.arena)
+
+  pub asked_align : {l : Loan} → Lends h m l → (v : Result Layout Refusal)
+      → MatchResult v (Lays s align) (Denied l.heap l.arena.now s align) → IfOk v (λ y. y.align ≡ align)
+  asked_align on (Ok y) said = said.aligned
+  asked_align on (Err r) said = tt
