@@ -33,7 +33,7 @@ FILES = {
 ROOMS = {
     "rules": {"rules": "", "demands": "rules"},
     "lines": {"rules": "", "lines": "rules"},
-    "talk": {"rules": "", "lines": "rules", "talk": "rules lines arrayvec memchr"},
+    "talk": {"rules": "", "lines": "rules", "talk": "rules lines memchr"},
     "c_face": {"rules": "", "c_face": "rules"},
 }
 STATED = {"lines": "Format", "talk": "Transcript", "c_face": "Statements"}
@@ -230,8 +230,9 @@ def sample(found, count, seed):
 
 
 def types(source):
-    """The types and constants that a source file declares, what they name of other files, and the modules below it, without any function."""
-    blocks = re.findall(r"^(?:pub )?const \w+: [^;]*?;\n|^pub (?:enum|struct) .*?^}\n", source, re.M | re.S)
+    """The types and constants that a source file declares, what clauses see of them, what they name of other files, and the modules below it,
+    without any function."""
+    blocks = re.findall(r"^(?:pub )?const \w+: [^;]*?;\n|^pub (?:enum|struct) .*?^}\n|^impl[^\n]* Model for .*?^}\n", source, re.M | re.S)
     named = set(re.findall(r"\w+", "".join(blocks)))
     uses = []
     for public, path, names in re.findall(r"^(pub )?use ([\w:]+)::(\w+|{[^}]*});\n", source, re.M):

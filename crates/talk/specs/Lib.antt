@@ -1,4 +1,6 @@
--- What the contracts of src/ cite: what comes of hearing bytes.
+-- What the contracts of src/ cite: what a buffer holds,
+pub mod Held
+-- what comes of hearing bytes,
 pub mod Hearing
 -- and what it comes to, in words
 pub mod Transcript

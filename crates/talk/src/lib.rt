@@ -2,12 +2,14 @@
 // answers wait behind each other until they are written. Reading and writing themselves are the caller's.
 #![tactic(auto)]
 
-ghost use Rattle.std.specs.Prelude.{◌≡◌, ◌≤◌, [], ◌∷◌, ◌++◌, length, replicate, MatchOption};
-ghost use Rattle.lines.specs.Wire.{arena_bytes};
-ghost use Rattle.talk.specs.Hearing.{lf, line_room, answers_room, come, answered, holding, Bounded, Hears};
-ghost use Rattle.talk.specs.Transcript.{NoEnd};
+mod buffer;
 
-use arrayvec::ArrayVec;
+ghost use Rattle.std.specs.Prelude.{◌≡◌, ◌≤◌, [], ◌∷◌, ◌++◌, length, replicate, take, MatchOption};
+ghost use Rattle.lines.specs.Wire.{arena_bytes, longest};
+ghost use Rattle.talk.specs.Hearing.{lf, line_room, answers_room, come, answered, Bounded, Hears};
+ghost use Rattle.talk.specs.Transcript.{NoEnd, at};
+
+pub use buffer::Buffer;
 use lines::{ARENA, FRAME, LONGEST, answer_line};
 use memchr::memchr;
 use rules::Heap;
@@ -23,12 +25,12 @@ pub const WAITING: usize = 2 * LONGEST;
 
 // The box, what is kept of the line that has not ended, and the answers that wait. `reply` is where an
 // answer is printed before it waits; what it holds between two lines means nothing.
-#[derive(Drop)]
+#[derive(Clone, Copy)]
 pub struct Talk {
     pub heap: Heap,
     pub arena: [u8; ARENA],
-    pub kept: ArrayVec<u8, KEPT>,
-    pub waits: ArrayVec<u8, WAITING>,
+    pub kept: Buffer<KEPT>,
+    pub waits: Buffer<WAITING>,
     pub reply: [u8; LONGEST],
 }
 
@@ -43,8 +45,8 @@ impl Talk {
         Talk {
             heap,
             arena: [0; ARENA],
-            kept: ArrayVec::new(),
-            waits: ArrayVec::new(),
+            kept: Buffer::new(),
+            waits: Buffer::new(),
             reply: [0; LONGEST],
         }
     }
@@ -55,23 +57,13 @@ impl Talk {
         ensures answered { come self.new ≡ answered (come self.old) }
         ensures fits { length self.new.waits.items ≤ answers_room }
     {
-        let replied = answer_line(self.heap, &mut self.arena, &self.kept, &mut self.reply);
-        self.heap = replied.heap;
-        self.kept.clear();
-        self.waits
-            .try_extend_from_slice(&self.reply[..replied.len])
-            .unwrap();
-    }
-
-    // Keeps more bytes of a line, as far as there is room for them.
-    fn keep(&mut self, part: &[u8])
-        ensures had { length self.old.kept.items ≤ line_room }
-        ensures has { length self.new.kept.items ≤ line_room }
-        ensures kept { come self.new ≡ holding part.now (come self.old) }
-    {
-        let room = self.kept.remaining_capacity();
-        let n = part.len().min(room);
-        self.kept.try_extend_from_slice(&part[..n]).unwrap();
+        answer(
+            &mut self.heap,
+            &mut self.arena,
+            &mut self.kept,
+            &mut self.waits,
+            &mut self.reply,
+        );
     }
 
     // Hears bytes, and gives those that it has not heard: each LF ends a line, which is answered. It stops
@@ -80,18 +72,70 @@ impl Talk {
         requires { Bounded self.old }
         ensures { Hears bytes.now (come self.old) result.now (come self.new) }
     {
-        let mut rest = bytes;
-        while self.waits.len() <= LONGEST {
-            let Some((line, more)) = first_line(rest) else {
-                self.keep(rest);
-                return &[];
-            };
-            self.keep(line);
-            self.answer();
-            rest = more;
-        }
-        rest
+        hear(
+            &mut self.heap,
+            &mut self.arena,
+            &mut self.kept,
+            &mut self.waits,
+            &mut self.reply,
+            bytes,
+        )
     }
+}
+
+// `Talk::answer` over parts that are lent: a caller may have the arena elsewhere, and talks may share a
+// reply's memory.
+pub fn answer(
+    heap: &mut Heap,
+    arena: &mut [u8; ARENA],
+    kept: &mut Buffer<KEPT>,
+    waits: &mut Buffer<WAITING>,
+    reply: &mut [u8; LONGEST],
+)
+    requires { length waits.old.items ≤ longest }
+    ensures answered { at heap.new arena.new kept.new.items waits.new.items ≡ answered (at heap.old arena.old kept.old.items waits.old.items) }
+    ensures fits { length waits.new.items ≤ answers_room }
+{
+    let replied = answer_line(*heap, arena, kept, reply);
+    *heap = replied.heap;
+    kept.clear();
+    waits.extend(&reply[..replied.len]);
+}
+
+// `Talk::hear` over parts that are lent.
+pub fn hear<'a>(
+    heap: &mut Heap,
+    arena: &mut [u8; ARENA],
+    kept: &mut Buffer<KEPT>,
+    waits: &mut Buffer<WAITING>,
+    reply: &mut [u8; LONGEST],
+    bytes: &'a [u8],
+) -> &'a [u8]
+    requires { length waits.old.items ≤ longest }
+    ensures { Hears bytes.now (at heap.old arena.old kept.old.items waits.old.items) result.now (at heap.new arena.new kept.new.items waits.new.items) }
+{
+    let mut rest = bytes;
+    while waits.len() <= LONGEST {
+        let Some((line, more)) = first_line(rest) else {
+            keep(kept, rest);
+            return &[];
+        };
+        keep(kept, line);
+        answer(heap, arena, kept, waits, reply);
+        rest = more;
+    }
+    rest
+}
+
+// Keeps more bytes of a line, as far as there is room for them.
+fn keep(kept: &mut Buffer<KEPT>, part: &[u8])
+    ensures had { length kept.old.items ≤ line_room }
+    ensures has { length kept.new.items ≤ line_room }
+    ensures keeps { kept.new.items ≡ take line_room (kept.old.items ++ part.now) }
+{
+    let room = KEPT - kept.len();
+    let n = part.len().min(room);
+    kept.extend(&part[..n]);
 }
 
 // The first line, its LF taken off, and the bytes behind it.

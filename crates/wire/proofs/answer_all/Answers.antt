@@ -6,12 +6,12 @@ use Rattle.talk.proofs.Hearing.{cut_next}
 use Rattle.wire.proofs.Said.{said_none, said_more}
 use Rattle.wire.proofs.answer_all.Goals as goal
 
-pub loop-rest-init : goal.loop-rest-init
-loop-rest-init g c = record { front = []; cut = refl; said = said_none _ _ c.requires }
+pub hearing-init : goal.hearing-init
+hearing-init g c = record { front = []; cut = refl; said = said_none _ _ c.requires }
 
-pub loop-rest-preserved : goal.loop-rest-preserved
-loop-rest-preserved g c =
-    let i = c.loop-rest.invariant in
+pub hearing-preserved : goal.hearing-preserved
+hearing-preserved g c =
+    let i = c.hearing.invariant in
     let h = c.hear-rest.ensures in
     record {
       front = i.front ++ h.front;

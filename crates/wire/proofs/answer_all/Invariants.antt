@@ -4,13 +4,13 @@ use Rattle.talk.specs.Hearing.{come}
 use Rattle.wire.specs.Bounds.{Said}
 use Rattle.wire.proofs.answer_all.Given as goal
 
-abbrev pub invariant-loop-rest : goal.invariant-loop-rest
-invariant-loop-rest g l =
+abbrev pub invariant-hearing : goal.invariant-hearing
+invariant-hearing g l =
     record {
       front : List ℕ;
       cut : l.bytes ≡ front ++ l.rest;
       said : Said (come l.initial.talk) front (g.W.Write.contents l.initial.out) (g.W.Write.contents l.out) (come l.talk);
     }
 
-abbrev pub decreases-loop-rest : goal.decreases-loop-rest
-decreases-loop-rest g l = length l.rest
+abbrev pub decreases-hearing : goal.decreases-hearing
+decreases-hearing g l = length l.rest
