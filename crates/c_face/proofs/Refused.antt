@@ -59,7 +59,7 @@ module _ (P : Outcome → Type 0) (h : Heap) (m : List ℕ) (f : (r : Refusal) �
   unfolding accepted leaves answer_numbers
   accepted_else (opening base named) n = absurd (n refl)
   accepted_else (change x) n =
-      by_change Else h (holes h m) (λ r e k. f r) (λ a h' js b k. absurd (k (accepted_zero a))) x (length m) n
+      by_change Else h (holes h m) (λ r e k. f r) (λ a h' js b p k. absurd (k (accepted_zero a))) x (length m) n
   accepted_else (report Report.list) n = absurd (n refl)
   accepted_else (report (Report.room align)) n = absurd (n refl)
 

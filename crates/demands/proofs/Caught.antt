@@ -6,7 +6,7 @@ use mathlib.Core.Logic.{inr, ⊎_elim}
 use Prim.Native.Nat.{ℕ, ◌+◌, ◌-◌, ◌^◌, ◌≤◌}
 use native.Mathlib.Omega.{arith}
 use lib.ListN.{length, get_or}
-use Rattle.std.proofs.Common.{Result, Ok, Err}
+use Rattle.std.proofs.Common.{Ok, Err}
 use Rattle.rules.specs.declared.Addr.{Addr}
 use Rattle.rules.specs.declared.Hole.{Hole}
 use Rattle.rules.specs.declared.Heap.{Heap}
@@ -24,7 +24,7 @@ use Rattle.rules.specs.Behaviour.{Behaviour}
 use Rattle.rules.specs.Statements.{Granted, Refitted, Statements, refusals_of}
 use Rattle.demands.specs.Frauds.{Wraps, Grant, UsedHole, Resizing, left, holes_before, holes_after}
 use Rattle.rules.proofs.Cases.{by_eq}
-use Rattle.rules.proofs.Passes.{by_change}
+use Rattle.rules.proofs.Passes.{Plain, by_change}
 use Rattle.rules.proofs.SoundWords.{rounded_rounds, rounds_rounded}
 use Rattle.rules.proofs.TestWords.{no_layout}
 use Rattle.demands.proofs.OneList.{one_place}
@@ -35,9 +35,6 @@ use Rattle.demands.proofs.Determined.{by_outcome}
 -- ---- a refusal
 
 -- an answer that comes of no refusal is none
-abbrev Plain : Result Answer Refusal → Type 0
-Plain a = (r : Refusal) → a ≡ Err r → ⊥
-
 abbrev Accepts : Outcome → Type 0
 Accepts (refused r) = Unit {0}
 Accepts (told a ks) = Plain (Ok a)
@@ -46,7 +43,7 @@ Accepts (done a h ks) = Plain (Ok a)
 accepted_accepts : (c : Call) (len : ℕ) (h : Heap) (ks : List Hole) → Accepts (accepted c len h ks)
 unfolding accepted
 accepted_accepts (opening base named) len h ks = λ r e. cc
-accepted_accepts (change c) len h ks = by_change Accepts h ks (λ r e. tt) (λ a h' js e r q. cc) c len
+accepted_accepts (change c) len h ks = by_change Accepts h ks (λ r e. tt) (λ a h' js e p. p) c len
 accepted_accepts (report Report.list) len h ks = λ r e. cc
 accepted_accepts (report (Report.room align)) len h ks = λ r e. cc
 

@@ -126,7 +126,7 @@ module _ (h : Heap) (ks : List Hole) where
   unfolding tests accepted
   accepted_based (opening base named) len n p =
       absurd (n (eqb-true h.bottom.0 0 (not-false (same h.bottom (addr 0)) (or_parts _ _ p.0).0)))
-  accepted_based (change c) len n p = by_change (Based h) h ks (λ r e. tt) (λ a h' js e. e) c len
+  accepted_based (change c) len n p = by_change (Based h) h ks (λ r e. tt) (λ a h' js e p. e) c len
   accepted_based (report r) len n p = tt
 
   decided_based : (c : Call) (len : ℕ) → (h.bottom.0 ≡ 0 → ⊥) → Based h (decided c len h ks)

@@ -220,7 +220,7 @@ rest_spare : (c : Call) (n : ℕ) (h : Heap) (ks : List Hole) → NoFive (unless
 unfolding unless accepted
 rest_spare (opening base named) n h ks = tt
 rest_spare (change c) n h ks =
-    unless_spare (change_tests c h ks) _ (change_spare c h ks) (by_change NoFive h ks (λ r e. e) (λ a h' js e. tt) c n)
+    unless_spare (change_tests c h ks) _ (change_spare c h ks) (by_change NoFive h ks (λ r e. e) (λ a h' js e p. tt) c n)
 rest_spare (report r) n h ks = unless_spare (report_tests r) _ (report_spare r) tt
 
 later_spare : (c : Call) (n : ℕ) (b : Box) → Opens c ≡ false → Whole b → NoFive (comes_to c n b)

@@ -33,10 +33,10 @@ read_none bytes e = cases (digits bytes) (λ d. absurd (none-some (value 0 bytes
 -- ---- digit by digit
 
 -- a digit behind a number makes a greater one
-pub read_on : (sum : ℕ) (bytes : List ℕ) (i : ℕ) → i < length bytes → digit (get_or bytes i 0) < 16
-    → read (sum * 16 + digit (get_or bytes i 0)) (drop (i + 1) bytes) ≡ read sum (drop i bytes)
+pub read_on : (sum more : ℕ) (bytes : List ℕ) (i : ℕ) → i < length bytes → digit (get_or bytes i 0) < 16
+    → more ≡ sum * 16 + digit (get_or bytes i 0) → read more (drop (i + 1) bytes) ≡ read sum (drop i bytes)
 unfolding read digits value
-read_on sum bytes i l d = rw (drop-cons bytes i 0, add-one, lt-ltb (digit (get_or bytes i 0)) 16)
+read_on sum more bytes i l d e = rw (e, drop-cons bytes i 0, add-one, lt-ltb (digit (get_or bytes i 0)) 16)
 
 -- any other byte makes none
 pub read_off : (sum : ℕ) (bytes : List ℕ) (i : ℕ) → i < length bytes → digit (get_or bytes i 0) ≡ 16 → read sum (drop i bytes) ≡ None

@@ -20,6 +20,21 @@ form_few (f ∷ fs) c e =
     (λ q. leb-true f.count most_numbers (and_parts (leb f.count most_numbers) (few fs) e).0)
     (λ q. form_few fs c (and_parts (leb f.count most_numbers) (few fs) e).1)
 
+pub count_most : (c : ℕ) → IfSome (form_of forms c) (λ f. f.count ≤ most_numbers)
+unfolding few
+count_most c = form_few forms c refl
+
+-- ---- what is no call
+
+abbrev pub NoCall : List Form → ℕ → Type 0
+NoCall [] c = Unit {0}
+NoCall (f ∷ fs) c = (c ≡ f.call → ⊥) × NoCall fs c
+
+pub no_form : (fs : List Form) (c : ℕ) → NoCall fs c → form_of fs c ≡ None
+unfolding form_of
+no_form [] c p = refl
+no_form (f ∷ fs) c p = rw (ne_eqb c f.call p.0) (no_form fs c p.1)
+
 -- ---- lines
 
 -- a line of digits is read by its call's byte
@@ -32,12 +47,23 @@ pub right_length : (line : List ℕ) (f : Form) → length line ≡ frame_digits
 unfolding formed
 right_length line f e = rw (eq-eqb (length line) (frame_digits f.count) e)
 
+-- at another length it is none
+pub other_length : (line : List ℕ) (c : ℕ) (f : Form) → form_of forms c ≡ Some f → (length line ≡ frame_digits f.count → ⊥)
+    → framed line c ≡ None
+unfolding formed
+other_length line c f e n = rw (e, ne_eqb (length line) (frame_digits f.count) n)
+
+-- and so it is at any length, if its byte is no call
+pub other_call : (line : List ℕ) (c : ℕ) → NoCall forms c → framed line c ≡ None
+unfolding formed
+other_call line c p = rw (no_form forms c p)
+
 -- a line of no frame's length is none, whatever its bytes are
-pub other_length : (line : List ℕ) → ((n : ℕ) → n ≤ most_numbers → length line ≡ frame_digits n → ⊥) → frame_of line ≡ None
-unfolding frame_of few formed
-other_length line other =
+pub no_length : (line : List ℕ) → ((n : ℕ) → n ≤ most_numbers → length line ≡ frame_digits n → ⊥) → frame_of line ≡ None
+unfolding frame_of formed
+no_length line other =
     cond_both (digits line) (framed line (number_at line 0 2)) None (λ o. o ≡ None)
-    (λ e. none (form_of forms (number_at line 0 2)) (form_few forms (number_at line 0 2) refl)) (λ e. refl)
+    (λ e. none (form_of forms (number_at line 0 2)) (count_most (number_at line 0 2))) (λ e. refl)
   where
     none : (o : Option Form) → IfSome o (λ f. f.count ≤ most_numbers) → formed line o ≡ None
     none None l = refl
@@ -45,4 +71,4 @@ other_length line other =
 
 -- and so is a longer one
 pub line_longer : (line : List ℕ) → frame_digits most_numbers < length line → frame_of line ≡ None
-line_longer line l = other_length line (λ n m e. omega arith)
+line_longer line l = no_length line (λ n m e. omega arith)

@@ -60,7 +60,7 @@ lists_list (report (Report.room align)) e = apart e refl
 accepted_shown : (c : Call) (len : ℕ) (h : Heap) (ks : List Hole) → lists c ≡ false → shown (accepted c len h ks) ≡ []
 unfolding accepted shown
 accepted_shown (opening base named) len h ks e = refl
-accepted_shown (change c) len h ks e = by_change (λ o. shown o ≡ []) h ks (λ r q. refl) (λ a h' js q. refl) c len
+accepted_shown (change c) len h ks e = by_change (λ o. shown o ≡ []) h ks (λ r q. refl) (λ a h' js q p. refl) c len
 accepted_shown (report Report.list) len h ks e = apart refl e
 accepted_shown (report (Report.room align)) len h ks e = refl
 

@@ -25,8 +25,7 @@ use Rattle.rules.specs.Outcome.{outcome, Rows, over, in_rows, leaves_rows, rows_
 use Rattle.rules.specs.InWords.{end_of, Rounds, Valid, Lies}
 use Rattle.rules.specs.Behaviour.{ours, Good}
 use Rattle.rules.specs.Statements.{Granted, RoomDoes, RowAt, ListDoes}
-use Rattle.std.proofs.lemmas.Bool.{cond_both}
-use Rattle.rules.proofs.Cases.{by_le, Some}
+use Rattle.rules.proofs.Cases.{by_le, by_test, Some}
 use Rattle.rules.proofs.Multiples.{multiples_apart}
 use Rattle.rules.proofs.Powers.{power_pos}
 use Rattle.rules.proofs.Used.{candidate_gap, candidate_low}
@@ -40,10 +39,10 @@ module _ (align : ℕ) (k : Hole) where
   abbrev start : ℕ
   start = (candidate align k.addr).0
 
-  by_grant : (P : ℕ → Type 0) → (start + 16 ≤ end_of k → P (end_of k - start)) → (end_of k < start + 16 → P 0) → P (grant_of align k)
+  by_grant {ℓ} : (P : ℕ → Type ℓ) → (start + 16 ≤ end_of k → P (end_of k - start)) → (end_of k < start + 16 → P 0) → P (grant_of align k)
   unfolding grant_of
   by_grant P f g =
-      cond_both (not_after (plus (candidate align k.addr) min_size) (end k)) _ _ P
+      by_test P (not_after (plus (candidate align k.addr) min_size) (end k)) _ _
       (λ e. f (leb-true _ _ e)) (λ e. g (leb-false _ _ e))
 
   -- no more than that lies in it

@@ -49,7 +49,7 @@ module _ (r : Rows) where
   accepted_stays : (c : Call) (len : ℕ) (h : Heap) (ks : List Hole) → (c ≡ list → ⊥) → Stays (accepted c len h ks)
   unfolding accepted leaves_rows in_rows
   accepted_stays (opening base named) len h ks n = refl
-  accepted_stays (change c) len h ks n = by_change Stays h ks (λ x e. refl) (λ a h' js b. refl) c len
+  accepted_stays (change c) len h ks n = by_change Stays h ks (λ x e. refl) (λ a h' js b p. refl) c len
   accepted_stays (report Report.list) len h ks n = absurd (n refl)
   accepted_stays (report (Report.room align)) len h ks n =
       let k = min (length r.addrs) (length r.sizes) in

@@ -23,8 +23,8 @@ pub loop-b-preserved : goal.loop-b-preserved
 loop-b-preserved c =
     let s = c.loop-b in
     let d = c.in_ok-sum.ensures in (
-      rw d.0 (read_on s.sum _ s.b-index (omega arith) (rw d.0 at d.1) ∙ s.invariant.0),
-      more_digits s.sum c.in_ok-sum.field-0 s.b-index s.invariant.1 d.1,
+      read_on s.sum _ _ s.b-index (omega arith) (rw d.0 at d.1) (omega (arith, d.0)) ∙ s.invariant.0,
+      omega (arith, more_digits s.sum c.in_ok-sum.field-0 s.b-index s.invariant.1 d.1),
     )
 
 -- behind the last byte

@@ -5,7 +5,7 @@ use Rattle.std.specs.Iterator.Adapters.{enumerate_source, enumerate_count}
 use Rattle.std.specs.Slice.Iter.{chunks_exact_rest}
 use Rattle.lines.specs.Frames.{value}
 use Rattle.lines.proofs.Digits.{read_some}
-use Rattle.lines.proofs.Frames.{line_longer, other_length}
+use Rattle.lines.proofs.Frames.{line_longer, no_length}
 use Rattle.lines.proofs.Taken.{begun, one_more, no_call, none_more, all_taken}
 use Rattle.lines.proofs.reading.read_frame.Goals as goal
 
@@ -15,7 +15,7 @@ returns-then-line-gt-FRAME c = sym (line_longer c.args.line.now c.if-line-gt-FRA
 pub returns-in_err-call : goal.returns-in_err-call
 returns-in_err-call c =
     let l : length c.args.line.now < 2 = c.in_err-call.ensures.cases in
-    c.from_residual.ensures ∙ sym (other_length c.args.line.now (λ n m e. omega arith))
+    c.from_residual.ensures ∙ sym (no_length c.args.line.now (λ n m e. omega arith))
 
 pub returns-in_err-call-2 : goal.returns-in_err-call-2
 returns-in_err-call-2 c =
@@ -27,7 +27,7 @@ returns-in_err-call-2 c =
 pub returns-then-rest-ne0 : goal.returns-then-rest-ne0
 returns-then-rest-ne0 c =
     let (low, front, back, long, behind) = c.in_ok-call.ensures.cases in
-    sym (other_length c.args.line.now (λ n m e. omega arith))
+    sym (no_length c.args.line.now (λ n m e. omega arith))
 
 pub loop-i-init : goal.loop-i-init
 loop-i-init c =
